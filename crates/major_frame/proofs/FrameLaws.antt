@@ -1,0 +1,142 @@
+-- What the check's loop does, in terms of the frame's verdict: at window i the verdict is what the tests from i on say. And
+-- the verdict accepts exactly if `frame_inv` holds, which is that four windows follow one another.
+-- Assumes nothing.
+use mathlib.Core.Bool.{Bool, true, false, not}
+use mathlib.Core.Logic.{_↔_, Iff·rfl}
+use mathlib.Core.Path.{_≡_, refl, sym, _∙_, ap}
+use Prim.Native.Nat.{ℕ, zero, suc, _+_, _-_, _≤_, _<_}
+use native.Mathlib.Omega.{arith}
+use borrow.Author.Tests.{eq-eqb, ne-eqb, le-leb, lt-leb, eqb-true, eqb-false, not-false}
+use lib.Dec.{eqb}
+use Rattle.refusal.specs.declared.Refusal.{Refusal}
+use Rattle.refusal.specs.declared.Refusal.the-variants.{WrongLength, TickPastFrame}
+use Rattle.refusal.specs.declared.Verdict.{Verdict}
+use Rattle.refusal.specs.declared.Verdict.the-variants.{Accepted, Refused}
+use Rattle.refusal.specs.First.{refuseIf, orElse, firstFault}
+use Rattle.refusal.proofs.First.{refuses-if, both-accept, each-accepts, all-accept, goes-on, stops, ends}
+use Rattle.timeline.specs.Windows.{Follow, Holds, OnlyWindow, windowAt}
+use Rattle.timeline.proofs.Laws.{exactly-one, window-at}
+use Rattle.major_frame.specs.declared.frame.MajorFrame.{MajorFrame}
+use Rattle.major_frame.specs.Frame.{offsetAt, budgetAt, winEnd, startOf, FrameInv, InWindow, windowFault, windowTest, lengthTest, frameVerdict, lookupVerdict, located, currentWindow}
+
+-- what the tests from window i on say
+abbrev pub verdictFrom : MajorFrame → ℕ → Verdict
+verdictFrom f i = orElse (firstFault (windowTest f) i (4 - i)) (lengthTest f)
+
+module _ (f : MajorFrame) where
+  pub check-goes-on : (i : ℕ) → i < 4 → windowTest f i ≡ Accepted → verdictFrom f i ≡ verdictFrom f (i + 1)
+  check-goes-on i h e = rw (goes-on (windowTest f) 4 i h e)
+
+  pub check-stops : (i : ℕ) (r : Refusal) → i < 4 → windowTest f i ≡ Refused r → verdictFrom f i ≡ Refused r
+  unfolding orElse
+  check-stops i r h e = rw (stops (windowTest f) 4 i r h e)
+
+  pub check-ends : (i : ℕ) → 4 ≤ i → verdictFrom f i ≡ lengthTest f
+  unfolding orElse
+  check-ends i h = rw (ends (windowTest f) 4 i h)
+
+  pub check-at-end : (i : ℕ) → 4 ≤ i → i ≤ 4 → startOf f i ≡ winEnd f 3
+  check-at-end i low high = let four : i ≡ 4 = omega arith in rw four
+
+-- what holds of the four windows holds of each
+four : (P : ℕ → Type 0) → P 0 → P 1 → P 2 → P 3 → (i : ℕ) → i < 4 → P i
+four P a b c d zero h = a
+four P a b c d (suc zero) h = b
+four P a b c d (suc (suc zero)) h = c
+four P a b c d (suc (suc (suc zero))) h = d
+four P a b c d (suc (suc (suc (suc i)))) h = absurd (omega arith)
+
+-- one test passes exactly if the window is as it should be
+equal : (a b : ℕ) → (not (eqb a b) ≡ false) ↔ (a ≡ b)
+equal a b = (λ e. eqb-true a b (not-false (eqb a b) e), λ e. ap not (eq-eqb a b e))
+
+positive : (a : ℕ) → (eqb a 0 ≡ false) ↔ (0 < a)
+positive a = (λ e. let no-way = eqb-false a 0 e in omega arith, λ h. ne-eqb a 0 (λ e. omega arith))
+
+window-accepted : (i start offset budget : ℕ) → (windowFault i start offset budget ≡ Accepted) ↔ ((0 < budget) × (offset ≡ start))
+unfolding windowFault
+window-accepted i start offset budget = simp (both-accept, refuses-if, equal, positive) Iff·rfl
+
+module _ (f : MajorFrame) where
+  test-accepted : (i : ℕ) → (windowTest f i ≡ Accepted) ↔ ((0 < budgetAt f i) × (offsetAt f i ≡ startOf f i))
+  unfolding windowTest
+  test-accepted i = window-accepted i (startOf f i) (offsetAt f i) (budgetAt f i)
+
+  pub length-accepted : (lengthTest f ≡ Accepted) ↔ (winEnd f 3 ≡ f .«frame_len»)
+  unfolding lengthTest
+  length-accepted = simp (refuses-if, equal) Iff·rfl
+
+  pub length-refused : (winEnd f 3 ≡ f .«frame_len» → ⊥) → lengthTest f ≡ Refused (WrongLength 3)
+  unfolding lengthTest refuseIf
+  length-refused h = rw (ne-eqb (winEnd f 3) (f .«frame_len») h)
+
+  -- the check accepts exactly if `frame_inv` holds
+  pub accepted-inv : frameVerdict f ≡ Accepted → FrameInv f
+  unfolding frameVerdict
+  accepted-inv e =
+      let p = both-accept (firstFault (windowTest f) 0 4) (lengthTest f) .0 e in
+      let each : (i : ℕ) → i < 4 → (0 < budgetAt f i) × (offsetAt f i ≡ startOf f i) = λ i h. test-accepted i .0 (each-accepts (windowTest f) 0 4 (p .0) i (omega arith) (omega arith)) in
+      record {
+        first-offset = each 0 (omega arith) .1;
+        budget-0 = each 0 (omega arith) .0;
+        budget-1 = each 1 (omega arith) .0;
+        budget-2 = each 2 (omega arith) .0;
+        budget-3 = each 3 (omega arith) .0;
+        end-0 = sym (each 1 (omega arith) .1);
+        end-1 = sym (each 2 (omega arith) .1);
+        end-2 = sym (each 3 (omega arith) .1);
+        end-3 = length-accepted .0 (p .1);
+      }
+
+  pub inv-accepted : FrameInv f → frameVerdict f ≡ Accepted
+  unfolding frameVerdict firstFault orElse
+  inv-accepted h =
+      rw (
+        test-accepted 0 .1 (h .budget-0, h .first-offset),
+        test-accepted 1 .1 (h .budget-1, sym (h .end-0)),
+        test-accepted 2 .1 (h .budget-2, sym (h .end-1)),
+        test-accepted 3 .1 (h .budget-3, sym (h .end-2)),
+        length-accepted .1 (h .end-3),
+      )
+
+  -- `frame_inv` says that the four windows follow one another
+  pub follow : FrameInv f → Follow 4 (offsetAt f) (budgetAt f) (f .«frame_len»)
+  follow h =
+      record {
+        one-at-least = omega arith;
+        first-starts-at-zero = h .first-offset;
+        budgets-are-positive = four (λ i. 0 < budgetAt f i) (h .budget-0) (h .budget-1) (h .budget-2) (h .budget-3);
+        starts-where-one-before-ends =
+            λ i k. four (λ j. j < 3 → offsetAt f (suc j) ≡ winEnd f j) (λ l. sym (h .end-0)) (λ l. sym (h .end-1)) (λ l. sym (h .end-2)) (λ l. absurd (omega arith)) i (omega arith) (omega arith);
+        last-end-is-frame-length = λ i e. let three : i ≡ 3 = omega arith in rw three (h .end-3);
+      }
+
+  pub unfollow : Follow 4 (offsetAt f) (budgetAt f) (f .«frame_len») → FrameInv f
+  unfollow h =
+      record {
+        first-offset = h .first-starts-at-zero;
+        budget-0 = h .budgets-are-positive 0 (omega arith);
+        budget-1 = h .budgets-are-positive 1 (omega arith);
+        budget-2 = h .budgets-are-positive 2 (omega arith);
+        budget-3 = h .budgets-are-positive 3 (omega arith);
+        end-0 = sym (h .starts-where-one-before-ends 0 (omega arith));
+        end-1 = sym (h .starts-where-one-before-ends 1 (omega arith));
+        end-2 = sym (h .starts-where-one-before-ends 2 (omega arith));
+        end-3 = h .last-end-is-frame-length 3 refl;
+      }
+
+  -- the three answers of a lookup
+  pub lookup-refused : (t : ℕ) (r : Refusal) → frameVerdict f ≡ Refused r
+      → currentWindow f t ≡ record { window = 0; verdict = Refused r }
+  unfolding currentWindow lookupVerdict located orElse
+  lookup-refused t r e = rw e
+
+  pub lookup-past : (t : ℕ) → frameVerdict f ≡ Accepted → f .«frame_len» ≤ t
+      → currentWindow f t ≡ record { window = 0; verdict = Refused TickPastFrame }
+  unfolding currentWindow lookupVerdict located orElse refuseIf
+  lookup-past t e h = rw (e, le-leb (f .«frame_len») t h)
+
+  pub lookup-found : (t : ℕ) → frameVerdict f ≡ Accepted → t < f .«frame_len»
+      → currentWindow f t ≡ record { window = windowAt 4 (offsetAt f) (budgetAt f) t; verdict = Accepted }
+  unfolding currentWindow lookupVerdict located orElse refuseIf
+  lookup-found t e h = rw (e, lt-leb (f .«frame_len») t h)

@@ -1,0 +1,3 @@
+pub mod Code
+pub mod First
+pub mod Table

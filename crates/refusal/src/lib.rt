@@ -1,0 +1,108 @@
+// Why an input was refused: the host's error codes, and one enum of refusals with its number, its place and its host
+// code (document 01, "Refusal numbers and their place").
+ghost use mathlib.Core.Path.{_≡_};
+ghost use Rattle.refusal.specs.Table.{numberOf, placeOf, hostCodeOf};
+
+pub mod code;
+
+// Named for what is wrong. A case that concerns one window or one row holds its number; every other place is 0.
+pub enum Refusal {
+    Counts,
+    ZeroBudget(u32),
+    WrongStart(u32),
+    UnknownOwner(u32),
+    WrongLength(u32),
+    UnknownPartition(u32),
+    BadSize(u32),
+    BadBase(u32),
+    BadAccess(u32),
+    NinthRow(u32),
+    Clash(u32),
+    TickPastFrame,
+    NoCallOpen,
+    Stopped,
+    NoWordsFor,
+    LogTooShort,
+    StrangeState,
+}
+
+// What a check answers.
+pub enum Verdict {
+    Accepted,
+    Refused(Refusal),
+}
+
+// Document 01's number of a refusal.
+pub fn number(r: Refusal) -> u32
+    ensures { λ n. ⌜ n ≡ numberOf r ⌝ }
+{
+    match r {
+        Refusal::Counts => 1,
+        Refusal::ZeroBudget(_) => 2,
+        Refusal::WrongStart(_) => 3,
+        Refusal::UnknownOwner(_) => 4,
+        Refusal::WrongLength(_) => 5,
+        Refusal::UnknownPartition(_) => 6,
+        Refusal::BadSize(_) => 7,
+        Refusal::BadBase(_) => 8,
+        Refusal::BadAccess(_) => 9,
+        Refusal::NinthRow(_) => 10,
+        Refusal::Clash(_) => 11,
+        Refusal::TickPastFrame => 12,
+        Refusal::NoCallOpen => 13,
+        Refusal::Stopped => 14,
+        Refusal::NoWordsFor => 15,
+        Refusal::LogTooShort => 16,
+        Refusal::StrangeState => 17,
+    }
+}
+
+// Where it is: a window, a row, or 0.
+pub fn place(r: Refusal) -> u32
+    ensures { λ p. ⌜ p ≡ placeOf r ⌝ }
+{
+    match r {
+        Refusal::Counts => 0,
+        Refusal::ZeroBudget(window) => window,
+        Refusal::WrongStart(window) => window,
+        Refusal::UnknownOwner(window) => window,
+        Refusal::WrongLength(window) => window,
+        Refusal::UnknownPartition(row) => row,
+        Refusal::BadSize(row) => row,
+        Refusal::BadBase(row) => row,
+        Refusal::BadAccess(row) => row,
+        Refusal::NinthRow(row) => row,
+        Refusal::Clash(row) => row,
+        Refusal::TickPastFrame => 0,
+        Refusal::NoCallOpen => 0,
+        Refusal::Stopped => 0,
+        Refusal::NoWordsFor => 0,
+        Refusal::LogTooShort => 0,
+        Refusal::StrangeState => 0,
+    }
+}
+
+// The code that the host's error interface knows it by.
+pub fn host_code(r: Refusal) -> i32
+    ensures { λ e. ⌜ e ≡ hostCodeOf r ⌝ }
+{
+    match r {
+        Refusal::Counts => code::EINVAL,
+        Refusal::ZeroBudget(_) => code::EINVAL,
+        Refusal::WrongStart(_) => code::EINVAL,
+        Refusal::UnknownOwner(_) => code::ENOENT,
+        Refusal::WrongLength(_) => code::EINVAL,
+        Refusal::UnknownPartition(_) => code::ENOENT,
+        Refusal::BadSize(_) => code::EINVAL,
+        Refusal::BadBase(_) => code::EINVAL,
+        Refusal::BadAccess(_) => code::EINVAL,
+        Refusal::NinthRow(_) => code::ENOSPC,
+        Refusal::Clash(_) => code::EADDRINUSE,
+        Refusal::TickPastFrame => code::EINVAL,
+        Refusal::NoCallOpen => code::EAGAIN,
+        Refusal::Stopped => code::ECANCELED,
+        Refusal::NoWordsFor => code::ENOENT,
+        Refusal::LogTooShort => code::ENOSPC,
+        Refusal::StrangeState => code::EBADF,
+    }
+}

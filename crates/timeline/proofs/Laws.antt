@@ -1,0 +1,134 @@
+-- Windows that follow one another. A window ends before any later one starts, by induction on the later one; what else is
+-- said here is arithmetic on that.
+-- Assumes nothing.
+use mathlib.Core.Bool.{Bool, true, false, cond, _&&_}
+use mathlib.Core.Path.{_≡_, refl, sym}
+use Prim.Native.Nat.{ℕ, zero, suc, _+_, _≤_, _<_}
+use native.Mathlib.Decide.{decLt, ℕ-discrete}
+use native.Mathlib.Omega.{arith}
+use borrow.Author.Tests.{eq-eqb, ne-eqb, le-leb, lt-ltb, leb-true, ltb-true}
+use lib.Dec.{leb, ltb, eqb}
+use Rattle.timeline.specs.Windows.{Follow, Holds, OnlyWindow, holdsb, windowAt, nextWindow, nextTick}
+
+-- the test and the statement agree
+pub holdsb-true : (offset budget : ℕ → ℕ) (i t : ℕ) → Holds offset budget i t → holdsb offset budget i t ≡ true
+unfolding holdsb
+holdsb-true offset budget i t h = rw (le-leb (offset i) t (h .started), lt-ltb t (offset i + budget i) (h .not-ended))
+
+both : (a b : Bool) → a && b ≡ true → (a ≡ true) × (b ≡ true)
+both true b e = (refl, e)
+both false b e = let z : true ≡ false = cc in (cc, cc)
+
+pub true-holds : (offset budget : ℕ → ℕ) (i t : ℕ) → holdsb offset budget i t ≡ true → Holds offset budget i t
+unfolding holdsb
+true-holds offset budget i t e =
+    let p = both (leb (offset i) t) (ltb t (offset i + budget i)) e in
+    record { started = leb-true (offset i) t (p .0); not-ended = ltb-true t (offset i + budget i) (p .1) }
+
+not-true : (b : Bool) → (b ≡ true → ⊥) → b ≡ false
+not-true true no-way = absurd (no-way refl)
+not-true false no-way = refl
+
+-- the one window among the first n that holds t is what `windowAt` finds
+only-found : (n : ℕ) (offset budget : ℕ → ℕ) (t i : ℕ) → i < n → Holds offset budget i t
+    → ((j : ℕ) → j < n → Holds offset budget j t → j ≡ i) → windowAt n offset budget t ≡ i
+unfolding windowAt
+only-found zero offset budget t i k h only = omega arith
+only-found (suc n) offset budget t i k h only =
+    elim (ℕ-discrete i n) [
+      | yes here ↦ rw (holdsb-true offset budget n t (rw here at h)) (sym here)
+      | no before ↦
+          rw (not-true (holdsb offset budget n t) (λ e. before (sym (only n (omega arith) (true-holds offset budget n t e)))))
+          (only-found n offset budget t i (omega arith) h (λ j l. only j (omega arith)))
+    ]
+
+module _ {n : ℕ} {offset budget : ℕ → ℕ} {frameLength : ℕ} (f : Follow n offset budget frameLength) where
+  pub ends-before : (i j : ℕ) → i < j → j < n → offset i + budget i ≤ offset j
+  ends-before i zero h k = omega arith
+  ends-before i (suc j) h k =
+      elim (decLt i j) [
+        | yes before ↦ omega (arith, ends-before i j before (omega arith), f .starts-where-one-before-ends j k)
+        | no here ↦ let same : i ≡ j = omega arith in rw same (omega (arith, f .starts-where-one-before-ends j k))
+      ]
+
+  pub offsets-increase : (i j : ℕ) → i < j → j < n → offset i < offset j
+  offsets-increase i j h k = omega (arith, ends-before i j h k, f .budgets-are-positive i (omega arith))
+
+  pub share-no-tick : (i j t : ℕ) → i < n → j < n → Holds offset budget i t → Holds offset budget j t → i ≡ j
+  share-no-tick i j t k l hi hj =
+      elim (decLt i j) [
+        | yes below ↦ absurd (omega (arith, ends-before i j below l))
+        | no above ↦ elim (decLt j i) [ yes below ↦ absurd (omega (arith, ends-before j i below k)) | no same ↦ omega arith ]
+      ]
+
+  pub ends-in-frame : (i : ℕ) → i < n → offset i + budget i ≤ frameLength
+  ends-in-frame i k = go n refl
+    where
+      go : (m : ℕ) → n ≡ m → offset i + budget i ≤ frameLength
+      go zero e = omega arith
+      go (suc m) e =
+          elim (ℕ-discrete i m) [
+            | yes same ↦ omega (arith, f .last-end-is-frame-length i (omega arith))
+            | no before ↦
+                omega (arith, ends-before i m (omega arith) (omega arith), f .last-end-is-frame-length m (omega arith))
+          ]
+
+  pub holds-in-frame : (i t : ℕ) → i < n → Holds offset budget i t → t < frameLength
+  holds-in-frame i t k h = omega (arith, ends-in-frame i k)
+
+  -- a tick before the end of window j is in a window up to j
+  reached : (t j : ℕ) → j < n → t < offset j + budget j → (i : ℕ) × (i < n) × Holds offset budget i t
+  reached t zero k h = (zero, k, record { started = omega (arith, f .first-starts-at-zero); not-ended = h })
+  reached t (suc j) k h =
+      elim (decLt t (offset (suc j))) [
+        | yes earlier ↦ reached t j (omega arith) (omega (arith, f .starts-where-one-before-ends j k))
+        | no here ↦ (suc j, k, record { started = omega arith; not-ended = h })
+      ]
+
+  some-window : (t : ℕ) → t < frameLength → (i : ℕ) × (i < n) × Holds offset budget i t
+  some-window t h = go n refl
+    where
+      go : (m : ℕ) → n ≡ m → (i : ℕ) × (i < n) × Holds offset budget i t
+      go zero e = absurd (omega (arith, f .one-at-least))
+      go (suc m) e = reached t m (omega arith) (omega (arith, f .last-end-is-frame-length m (omega arith)))
+
+  pub window-at : (i t : ℕ) → i < n → Holds offset budget i t → windowAt n offset budget t ≡ i
+  window-at i t k h = only-found n offset budget t i k h (λ j l hj. share-no-tick j i t l k hj h)
+
+  -- each tick below the frame's end is in exactly one window, the one that `windowAt` finds
+  pub exactly-one : (t : ℕ) → t < frameLength → OnlyWindow n offset budget t (windowAt n offset budget t)
+  exactly-one t h =
+      let w = some-window t h in
+      rw (window-at (w .0) t (w .1) (w .2))
+      (record { is-window = w .1; holds = w .2; no-other = λ j l hj. share-no-tick j (w .0) t l (w .1) hj (w .2) })
+
+  -- the tick after a window's last is the first of the next window
+  pub next-starts : (i t : ℕ) → i < n → t + 1 ≡ offset i + budget i → nextTick frameLength t ≡ offset (nextWindow n i)
+  unfolding nextTick nextWindow
+  next-starts i t k last =
+      elim (ℕ-discrete (suc i) n) [
+        | yes end ↦
+            rw (eq-eqb (suc i) n end, eq-eqb (t + 1) frameLength (omega (arith, f .last-end-is-frame-length i end)))
+            (omega (arith, f .first-starts-at-zero))
+        | no more ↦
+            let m : suc i < n = omega arith in
+            rw (
+              ne-eqb (suc i) n more,
+              ne-eqb (t + 1) frameLength (λ e. omega (arith, f .starts-where-one-before-ends i m, ends-in-frame (suc i) m, f .budgets-are-positive (suc i) m)),
+            )
+            (omega (arith, f .starts-where-one-before-ends i m))
+      ]
+
+  pub next-is-window : (i : ℕ) → i < n → nextWindow n i < n
+  unfolding nextWindow
+  next-is-window i k =
+      elim (ℕ-discrete (suc i) n) [
+        | yes end ↦ rw (eq-eqb (suc i) n end) (f .one-at-least)
+        | no more ↦ rw (ne-eqb (suc i) n more) (omega arith)
+      ]
+
+  pub next-holds : (i t : ℕ) → i < n → t + 1 ≡ offset i + budget i
+      → Holds offset budget (nextWindow n i) (nextTick frameLength t)
+  next-holds i t k last =
+      let p = f .budgets-are-positive (nextWindow n i) (next-is-window i k) in
+      rw (next-starts i t k last) (record { started = omega arith; not-ended = omega arith })
