@@ -14,6 +14,9 @@ use Rattle.timeline.specs.Windows.{windowAt}
 use Rattle.major_frame.specs.declared.frame.MajorFrame.{MajorFrame}
 use Rattle.major_frame.specs.declared.frame.Located.{Located}
 
+abbrev pub partitionAt : MajorFrame → ℕ → ℕ
+partitionAt f i = getD (f .«partition_id») i 0
+
 abbrev pub offsetAt : MajorFrame → ℕ → ℕ
 offsetAt f i = getD (f .offset) i 0
 

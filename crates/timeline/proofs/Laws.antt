@@ -1,7 +1,8 @@
 -- Windows that follow one another. A window ends before any later one starts, by induction on the later one; what else is
 -- said here is arithmetic on that.
 -- Assumes nothing.
-use mathlib.Core.Bool.{Bool, true, false, cond, _&&_}
+use mathlib.Core.Bool.{Bool, true, and-eq-true-iff}
+use mathlib.Mathlib.Data.Bool.Basic.{eq-false-of-not-eq-true}
 use mathlib.Core.Path.{_≡_, refl, sym}
 use Prim.Native.Nat.{ℕ, zero, suc, _+_, _≤_, _<_}
 use native.Mathlib.Decide.{decLt, ℕ-discrete}
@@ -15,19 +16,11 @@ pub holdsb-true : (offset budget : ℕ → ℕ) (i t : ℕ) → Holds offset bud
 unfolding holdsb
 holdsb-true offset budget i t h = rw (le-leb (offset i) t (h .started), lt-ltb t (offset i + budget i) (h .not-ended))
 
-both : (a b : Bool) → a && b ≡ true → (a ≡ true) × (b ≡ true)
-both true b e = (refl, e)
-both false b e = let z : true ≡ false = cc in (cc, cc)
-
 pub true-holds : (offset budget : ℕ → ℕ) (i t : ℕ) → holdsb offset budget i t ≡ true → Holds offset budget i t
 unfolding holdsb
 true-holds offset budget i t e =
-    let p = both (leb (offset i) t) (ltb t (offset i + budget i)) e in
+    let p = and-eq-true-iff (leb (offset i) t) (ltb t (offset i + budget i)) .0 e in
     record { started = leb-true (offset i) t (p .0); not-ended = ltb-true t (offset i + budget i) (p .1) }
-
-not-true : (b : Bool) → (b ≡ true → ⊥) → b ≡ false
-not-true true no-way = absurd (no-way refl)
-not-true false no-way = refl
 
 -- the one window among the first n that holds t is what `windowAt` finds
 only-found : (n : ℕ) (offset budget : ℕ → ℕ) (t i : ℕ) → i < n → Holds offset budget i t
@@ -38,7 +31,7 @@ only-found (suc n) offset budget t i k h only =
     elim (ℕ-discrete i n) [
       | yes here ↦ rw (holdsb-true offset budget n t (rw here at h)) (sym here)
       | no before ↦
-          rw (not-true (holdsb offset budget n t) (λ e. before (sym (only n (omega arith) (true-holds offset budget n t e)))))
+          rw (eq-false-of-not-eq-true (λ e. before (sym (only n (omega arith) (true-holds offset budget n t e)))))
           (only-found n offset budget t i (omega arith) h (λ j l. only j (omega arith)))
     ]
 
