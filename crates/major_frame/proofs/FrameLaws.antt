@@ -1,9 +1,9 @@
 -- What the check's loop does, in terms of the frame's verdict: at window i the verdict is what the tests from i on say. And
 -- the verdict accepts exactly if `frame_inv` holds, which is that four windows follow one another.
 -- Assumes nothing.
-use mathlib.Core.Bool.{Bool, true, false, not}
-use mathlib.Core.Logic.{_↔_, Iff·rfl}
-use mathlib.Core.Path.{_≡_, refl, sym, _∙_, ap}
+use mathlib.Core.Bool.{false, not}
+use mathlib.Core.Logic.{_↔_, _⊎_, ⊎-map, Iff·rfl}
+use mathlib.Core.Path.{_≡_, refl, sym, ap}
 use Prim.Native.Nat.{ℕ, zero, suc, _+_, _-_, _≤_, _<_}
 use native.Mathlib.Omega.{arith}
 use borrow.Author.Tests.{eq-eqb, ne-eqb, le-leb, lt-leb, eqb-true, eqb-false, not-false}
@@ -12,12 +12,12 @@ use Rattle.refusal.specs.declared.Refusal.{Refusal}
 use Rattle.refusal.specs.declared.Refusal.the-variants.{WrongLength, TickPastFrame}
 use Rattle.refusal.specs.declared.Verdict.{Verdict}
 use Rattle.refusal.specs.declared.Verdict.the-variants.{Accepted, Refused}
-use Rattle.refusal.specs.First.{refuseIf, orElse, firstFault}
-use Rattle.refusal.proofs.First.{refuses-if, both-accept, each-accepts, all-accept, goes-on, stops, ends}
-use Rattle.timeline.specs.Windows.{Follow, Holds, OnlyWindow, windowAt}
-use Rattle.timeline.proofs.Laws.{exactly-one, window-at}
+use Rattle.refusal.specs.First.{refuseIf, orElse, firstFault, FirstAt}
+use Rattle.refusal.proofs.First.{refuses-if, both-accept, one-refuses, first-refuses, each-accepts, goes-on, stops, ends}
+use Rattle.timeline.specs.Windows.{Follow, windowAt}
+use Rattle.timeline.proofs.Laws.{ends-in-frame}
 use Rattle.major_frame.specs.declared.frame.MajorFrame.{MajorFrame}
-use Rattle.major_frame.specs.Frame.{offsetAt, budgetAt, winEnd, startOf, FrameInv, InWindow, windowFault, windowTest, lengthTest, frameVerdict, lookupVerdict, located, currentWindow}
+use Rattle.major_frame.specs.Frame.{offsetAt, budgetAt, winEnd, startOf, FrameInv, windowFault, windowTest, lengthTest, frameVerdict, lookupVerdict, located, currentWindow}
 
 -- what the tests from window i on say
 abbrev pub verdictFrom : MajorFrame → ℕ → Verdict
@@ -99,6 +99,15 @@ module _ (f : MajorFrame) where
         length-accepted .1 (h .end-3),
       )
 
+  -- a refusal is the first in document 01's order: a window's, and none before it; or every window passes, and 5
+  pub refused-first : (r : Refusal) → frameVerdict f ≡ Refused r
+      → ((i : ℕ) × FirstAt (windowTest f) 0 4 r i) ⊎ (((i : ℕ) → i < 4 → windowTest f i ≡ Accepted) × (lengthTest f ≡ Refused r))
+  unfolding frameVerdict
+  refused-first r e =
+      ⊎-map (first-refuses (windowTest f) 0 4 r)
+      (λ p. (λ i h. each-accepts (windowTest f) 0 4 (p .0) i (omega arith) (omega arith), p .1))
+      (one-refuses (firstFault (windowTest f) 0 4) (lengthTest f) r e)
+
   -- `frame_inv` says that the four windows follow one another
   pub follow : FrameInv f → Follow 4 (offsetAt f) (budgetAt f) (f .«frame_len»)
   follow h =
@@ -124,6 +133,10 @@ module _ (f : MajorFrame) where
         end-2 = sym (h .starts-where-one-before-ends 2 (omega arith));
         end-3 = h .last-end-is-frame-length 3 refl;
       }
+
+  -- an accepted frame's sums of offset and budget reach `frame_len`, a u32, and no more
+  pub end-in-frame : FrameInv f → (i : ℕ) → i < 4 → winEnd f i ≤ f .«frame_len»
+  end-in-frame h i k = ends-in-frame (follow h) i k
 
   -- the three answers of a lookup
   pub lookup-refused : (t : ℕ) (r : Refusal) → frameVerdict f ≡ Refused r

@@ -14,7 +14,6 @@ use Rattle.refusal.specs.declared.Verdict.the-variants.{Accepted, Refused}
 use Rattle.refusal.specs.First.{refuseIf, orElse}
 use Rattle.refusal.proofs.First.{refuses-if, both-accept}
 use Rattle.major_frame.specs.declared.seam.SeamCall.the-variants.{NotMade}
-use Rattle.major_frame.specs.declared.switcher.Stepped.{Stepped}
 use Rattle.major_frame.specs.declared.switcher.SwPhase.{SwPhase}
 use Rattle.major_frame.specs.declared.switcher.SwPhase.the-variants.{Running, SaveCtx, ProgramRegions, Resume}
 use Rattle.major_frame.specs.declared.switcher.Switcher.{Switcher}

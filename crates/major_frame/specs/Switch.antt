@@ -13,7 +13,6 @@ use Rattle.major_frame.specs.declared.frame.MajorFrame.{MajorFrame}
 use Rattle.major_frame.specs.declared.switcher.SwPhase.{SwPhase}
 use Rattle.major_frame.specs.declared.switcher.SwPhase.the-variants.{Running, SaveCtx, ProgramRegions, Resume}
 use Rattle.major_frame.specs.declared.switcher.Switcher.{Switcher}
-use Rattle.major_frame.specs.declared.seam.Calls.{Calls}
 use Rattle.major_frame.specs.declared.seam.SeamCall.{SeamCall}
 use Rattle.major_frame.specs.declared.seam.SeamCall.the-variants.{NotMade, CtxSave, RegionSwap, CtxResume}
 use Rattle.major_frame.specs.declared.switcher.Made.{Made}

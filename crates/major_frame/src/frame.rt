@@ -8,10 +8,15 @@ use refusal::Verdict;
 
 pub const MAX_WINDOWS: usize = 4;
 
+// The same for window numbers, which are u32, and the last of them.
+pub const WINDOWS: u32 = 4;
+
+pub const LAST_WINDOW: u32 = 3;
+
 pub struct MajorFrame {
-    pub partition_id: [u32; 4],
-    pub offset: [u32; 4],
-    pub budget: [u32; 4],
+    pub partition_id: [u32; MAX_WINDOWS],
+    pub offset: [u32; MAX_WINDOWS],
+    pub budget: [u32; MAX_WINDOWS],
     pub frame_len: u32,
 }
 
@@ -49,7 +54,7 @@ impl MajorFrame {
     {
         let mut end: u64 = 0;
         let mut i: usize = 0;
-        while i < 4 {
+        while i < MAX_WINDOWS {
             let starts = self.offset[i];
             let lasts = self.budget[i];
             let verdict = window_fault(i as u32, end, starts, lasts);
@@ -62,7 +67,7 @@ impl MajorFrame {
         if end == self.frame_len as u64 {
             Verdict::Accepted
         } else {
-            Verdict::Refused(Refusal::WrongLength(3))
+            Verdict::Refused(Refusal::WrongLength(LAST_WINDOW))
         }
     }
 

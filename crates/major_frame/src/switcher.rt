@@ -4,7 +4,9 @@ ghost use mathlib.Core.Path.{_≡_};
 ghost use Prim.Native.Nat.{_<_};
 ghost use Rattle.major_frame.specs.Switch.{nextOf, markFits, inRunning, inSaveCtx, inProgramRegions, inResume, stateVerdict, atBoundary, zeros, started, preempted, saved, swappedIn, resumed, stepped, newOf, tickOf, markSavedOf, markSwappedOf, markResumedOf, switched, switchOf, runSwitchOf};
 ghost use Rattle.major_frame.specs.Frame.{partitionAt};
+use crate::frame::LAST_WINDOW;
 use crate::frame::MajorFrame;
+use crate::frame::WINDOWS;
 use crate::frame::window_end;
 use crate::seam::Calls;
 use crate::seam::SeamCall;
@@ -50,7 +52,7 @@ pub struct Switched {
 fn next_window(cur: u32) -> u32
     ensures { λ r. ⌜ r ≡ nextOf cur ⌝ }
 {
-    if cur < 3 { cur + 1 } else { 0 }
+    if cur < LAST_WINDOW { cur + 1 } else { 0 }
 }
 
 // What `inv` asks of the mark: set in Resume, clear before.
@@ -120,7 +122,7 @@ impl Switcher {
         };
         let phase = self.phase;
         let fits = mark_fits(phase, self.swapped);
-        if self.cur < 4 {
+        if self.cur < WINDOWS {
             if fits {
                 return Verdict::Accepted;
             }
@@ -135,7 +137,7 @@ impl Switcher {
         let phase = self.phase;
         let cur = self.cur;
         let running = in_running(phase);
-        if 4 <= cur {
+        if WINDOWS <= cur {
             return false;
         }
         let frame = self.frame;
@@ -165,7 +167,7 @@ impl Switcher {
             frame,
             cur: 0,
             phase: SwPhase::Running,
-            swapped: false,
+            swapped: false, // no regions have been programmed
         }
     }
 
@@ -177,7 +179,7 @@ impl Switcher {
             frame,
             cur: self.cur,
             phase: SwPhase::SaveCtx,
-            swapped: false,
+            swapped: false, // those of the partition that goes
         }
     }
 

@@ -2,8 +2,8 @@
 -- first test that refuses does so with r. By induction on how many tests are left.
 -- Assumes nothing.
 use mathlib.Core.Bool.{Bool, true, false}
-use mathlib.Core.Logic.{_↔_}
-use mathlib.Core.Path.{_≡_, refl, sym, _∙_}
+use mathlib.Core.Logic.{_↔_, _⊎_, inl, inr}
+use mathlib.Core.Path.{_≡_, refl, _∙_}
 use Prim.Native.Nat.{ℕ, zero, suc, _+_, _-_, _≤_, _<_}
 use native.Mathlib.Numerals.{add-one}
 use native.Mathlib.Decide.{ℕ-discrete}
@@ -27,6 +27,11 @@ pub both-accept : (v w : Verdict) → (orElse v w ≡ Accepted) ↔ ((v ≡ Acce
 unfolding orElse
 both-accept Accepted w = (λ e. (refl, e), λ p. p .1)
 both-accept (Refused r) w = (λ e. (e, cc), λ p. p .0)
+
+pub one-refuses : (v w : Verdict) (r : Refusal) → orElse v w ≡ Refused r → (v ≡ Refused r) ⊎ ((v ≡ Accepted) × (w ≡ Refused r))
+unfolding orElse
+one-refuses Accepted w r e = inr (refl, e)
+one-refuses (Refused x) w r e = inl e
 
 module _ (test : ℕ → Verdict) where
   pub each-accepts : (first left : ℕ) → firstFault test first left ≡ Accepted

@@ -1,14 +1,14 @@
 -- Windows that follow one another. A window ends before any later one starts, by induction on the later one; what else is
 -- said here is arithmetic on that.
 -- Assumes nothing.
-use mathlib.Core.Bool.{Bool, true, and-eq-true-iff}
+use mathlib.Core.Bool.{true, and-eq-true-iff}
 use mathlib.Mathlib.Data.Bool.Basic.{eq-false-of-not-eq-true}
 use mathlib.Core.Path.{_≡_, refl, sym}
 use Prim.Native.Nat.{ℕ, zero, suc, _+_, _≤_, _<_}
 use native.Mathlib.Decide.{decLt, ℕ-discrete}
 use native.Mathlib.Omega.{arith}
 use borrow.Author.Tests.{eq-eqb, ne-eqb, le-leb, lt-ltb, leb-true, ltb-true}
-use lib.Dec.{leb, ltb, eqb}
+use lib.Dec.{leb, ltb}
 use Rattle.timeline.specs.Windows.{Follow, Holds, OnlyWindow, holdsb, windowAt, nextWindow, nextTick}
 
 -- the test and the statement agree

@@ -1,21 +1,18 @@
+-- `next_window` meets its contract: the test says which case of `nextOf` holds.
+-- Assumes nothing.
 use borrow.Author.Needs.{needs}
 use borrow.Author.Tests.{lt-ltb, le-ltb}
 use Rattle.major_frame.specs.Switch.{nextOf}
 use Rattle.major_frame.proofs.switcher.next_window.Statement.{statement}
 use Rattle.major_frame.proofs.switcher.next_window.Tie as tie
-use Rattle.major_frame.proofs.switcher.next_window.Reads as reads
-use Rattle.major_frame.proofs.switcher.next_window.Lts as lts
 
--- src/switcher.rt:42:18
 add-result : tie.Need-add-result
 add-result c = search needs
 
--- src/switcher.rt:39:1
 returns : tie.Need-returns
 unfolding nextOf
 returns c = simp (lt-ltb _ _ (c .if1 .taken))
 
--- src/switcher.rt:39:1
 returns-2 : tie.Need-returns-2
 unfolding nextOf
 returns-2 c = simp (le-ltb _ _ (c .if1 .left))

@@ -1,19 +1,17 @@
+-- `check` meets its contract. The loop's invariant: the frame's verdict is what the tests from window i on say, and `end` is
+-- where window i has to start. After the loop only the frame's length is left to test.
+-- Assumes nothing.
 use Prim.Native.Nat.{_≤_, _-_}
 use mathlib.Core.Path.{_≡_}
 use native.Mathlib.Omega.{arith}
 use borrow.Author.Needs.{needs}
-use mathlib.Core.Path.{refl, sym, _∙_, ap}
+use mathlib.Core.Path.{refl, sym, _∙_}
 use Rattle.major_frame.proofs.FrameLaws.{verdictFrom, check-goes-on, check-stops, check-ends, length-accepted, length-refused}
 use native.Mathlib.Numerals.{add-one}
 use Rattle.refusal.specs.declared.Verdict.the-variants.{Accepted}
-use Rattle.refusal.specs.First.{refuseIf}
 use Rattle.major_frame.specs.Frame.{frameVerdict, windowTest, lengthTest, startOf, winEnd}
 use Rattle.major_frame.proofs.frame.MajorFrame.check.Statement.{statement}
 use Rattle.major_frame.proofs.frame.MajorFrame.check.Tie as tie
-use Rattle.major_frame.proofs.frame.MajorFrame.check.Reads as reads
-use Rattle.major_frame.proofs.frame.MajorFrame.check.Lts as lts
-use Rattle.major_frame.proofs.frame.window_end.Reads as window-end-reads
-use Rattle.major_frame.proofs.frame.window_fault.Reads as window-fault-reads
 
 abbrev Inv-loop : tie.InvT-loop
 Inv-loop self end₀ i₀ end i =
@@ -22,43 +20,34 @@ Inv-loop self end₀ i₀ end i =
 abbrev μ-loop : tie.MeasureT-loop
 μ-loop self end₀ i₀ end i = 4 - i
 
--- src/frame.rt:53:9
 loop-holds : tie.Need-loop-holds Inv-loop μ-loop
 unfolding frameVerdict
 loop-holds c = (omega arith, refl, refl)
 
--- src/frame.rt:54:26
 mul-starts : tie.Need-mul-starts Inv-loop μ-loop
 mul-starts c = search needs
 
--- src/frame.rt:54:26
 element-copy-out-starts : tie.Need-element-copy-out-starts Inv-loop μ-loop
 element-copy-out-starts c = search needs
 
--- src/frame.rt:55:25
 mul-lasts : tie.Need-mul-lasts Inv-loop μ-loop
 mul-lasts c = search needs
 
--- src/frame.rt:55:25
 element-copy-out-lasts : tie.Need-element-copy-out-lasts Inv-loop μ-loop
 element-copy-out-lasts c = search needs
 
--- src/frame.rt:56:40
 cast-window-fault : tie.Need-cast-window-fault Inv-loop μ-loop
 cast-window-fault c = search needs
 
--- src/frame.rt:56:17
 window-fault-requires : tie.Need-window-fault-requires Inv-loop μ-loop
 window-fault-requires c κs = search needs
 
 enum-told : tie.Need-enum-told Inv-loop μ-loop
 enum-told c = search needs
 
--- src/frame.rt:58:17
 enum-told-2 : tie.Need-enum-told-2 Inv-loop μ-loop
 enum-told-2 c = search needs
 
--- src/frame.rt:58:17
 returns : tie.Need-returns Inv-loop μ-loop
 unfolding windowTest
 returns c =
@@ -67,19 +56,15 @@ returns c =
     let tested : windowTest (at .before .args .t1) (at .loop .i) ≡ c .before .before .window-fault .result = cc in
     told .1 ∙ sym (at .loop .inv .2 ∙ check-stops (at .before .args .t1) (at .loop .i) (told .0 .0) (search needs) (tested ∙ told .1))
 
--- src/frame.rt:60:13
 window-end-requires : tie.Need-window-end-requires Inv-loop μ-loop
 window-end-requires c κs = search needs
 
--- src/frame.rt:61:13
 add-i : tie.Need-add-i Inv-loop μ-loop
 add-i c = search needs
 
--- src/frame.rt:53:9
 loop-less : tie.Need-loop-less Inv-loop μ-loop
 loop-less c = search needs
 
--- src/frame.rt:53:9
 loop-again : tie.Need-loop-again Inv-loop μ-loop
 unfolding windowTest
 loop-again c =
@@ -87,7 +72,6 @@ loop-again c =
     let tested : windowTest (at .before .args .t1) (at .loop .i) ≡ Accepted = cc in
     (omega arith, rw add-one (c .window-end .ensures), at .loop .inv .2 ∙ check-goes-on (at .before .args .t1) (at .loop .i) (search needs) tested)
 
--- src/frame.rt:63:19
 cast-if1 : tie.Need-cast-if1 Inv-loop μ-loop
 cast-if1 c = search needs
 

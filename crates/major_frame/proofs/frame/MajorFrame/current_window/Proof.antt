@@ -1,29 +1,22 @@
+-- `current_window` meets its contract: each `return` is one of the three answers of a lookup.
+-- Assumes nothing.
 use borrow.Author.Needs.{needs}
-use native.Mathlib.Omega.{arith}
 use mathlib.Core.Path.{sym, _∙_, _≡_, ap}
-use borrow.Author.Tests.{le-leb, lt-leb}
 use Prim.Native.Nat.{ℕ}
 use Rattle.refusal.specs.declared.Verdict.{Verdict}
 use Rattle.refusal.specs.declared.Verdict.the-variants.{Accepted}
 use Rattle.major_frame.specs.declared.frame.Located.{Located}
-use Rattle.refusal.specs.First.{refuseIf, orElse}
-use Rattle.major_frame.specs.Frame.{frameVerdict, lookupVerdict, located, currentWindow}
+use Rattle.major_frame.specs.Frame.{frameVerdict}
 use Rattle.major_frame.proofs.FrameLaws.{accepted-inv, lookup-refused, lookup-past, lookup-found}
 use Rattle.major_frame.proofs.frame.MajorFrame.current_window.Statement.{statement}
 use Rattle.major_frame.proofs.frame.MajorFrame.current_window.Tie as tie
-use Rattle.major_frame.proofs.frame.MajorFrame.current_window.Reads as reads
-use Rattle.major_frame.proofs.frame.MajorFrame.current_window.Lts as lts
-use Rattle.major_frame.proofs.frame.MajorFrame.check.Reads as check-reads
-use Rattle.major_frame.proofs.frame.MajorFrame.window_of.Reads as window-of-reads
 
--- src/frame.rt:92:13
 check-requires : tie.Need-check-requires
 check-requires c κs = search needs
 
 enum-told : tie.Need-enum-told
 enum-told c = search needs
 
--- src/frame.rt:94:13
 enum-told-2 : tie.Need-enum-told-2
 enum-told-2 c = search needs
 
@@ -33,7 +26,6 @@ answer w v = record { window = w; verdict = v }
 accepted : (c : tie.After-enum-told) → frameVerdict (c .before .before .before .args .self) ≡ Accepted
 accepted c = sym (c .before .before .check .ensures) ∙ c .enum-told .given .1
 
--- src/frame.rt:94:13
 returns : tie.Need-returns
 returns c =
     let a = c .before .before .before .args in

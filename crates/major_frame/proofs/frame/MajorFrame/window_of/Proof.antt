@@ -1,3 +1,6 @@
+-- `window_of` meets its contract: each comparison that led to a `return` shows that the window holds t, and the one that holds t
+-- is the one that `windowAt` finds.
+-- Assumes nothing.
 use borrow.Author.Needs.{needs}
 use native.Mathlib.Omega.{arith}
 use mathlib.Core.Path.{sym}
@@ -5,40 +8,31 @@ use Rattle.timeline.proofs.Laws.{window-at}
 use Rattle.major_frame.proofs.FrameLaws.{follow}
 use Rattle.major_frame.proofs.frame.MajorFrame.window_of.Statement.{statement}
 use Rattle.major_frame.proofs.frame.MajorFrame.window_of.Tie as tie
-use Rattle.major_frame.proofs.frame.MajorFrame.window_of.Reads as reads
-use Rattle.major_frame.proofs.frame.MajorFrame.window_of.Lts as lts
 
--- src/frame.rt:77:16
 array-read-if1 : tie.Need-array-read-if1
 array-read-if1 c = search needs
 
--- src/frame.rt:78:13
 returns : tie.Need-returns
 returns c =
     let inv = c .before .before .pre .0 in
     sym (window-at (follow (c .before .before .args .self) inv) 0 (c .before .before .args .t) (omega arith) (record { started = omega arith; not-ended = omega arith }))
 
--- src/frame.rt:80:16
 array-read-if2 : tie.Need-array-read-if2
 array-read-if2 c = search needs
 
--- src/frame.rt:81:13
 returns-2 : tie.Need-returns-2
 returns-2 c =
     let inv = c .before .before .before .pre .0 in
     sym (window-at (follow (c .before .before .before .args .self) inv) 1 (c .before .before .before .args .t) (omega arith) (record { started = omega arith; not-ended = omega arith }))
 
--- src/frame.rt:83:16
 array-read-if3 : tie.Need-array-read-if3
 array-read-if3 c = search needs
 
--- src/frame.rt:84:13
 returns-3 : tie.Need-returns-3
 returns-3 c =
     let inv = c .before .before .before .before .pre .0 in
     sym (window-at (follow (c .before .before .before .before .args .self) inv) 2 (c .before .before .before .before .args .t) (omega arith) (record { started = omega arith; not-ended = omega arith }))
 
--- src/frame.rt:71:5
 returns-4 : tie.Need-returns-4
 returns-4 c =
     let inv = c .before .before .before .before .pre .0 in

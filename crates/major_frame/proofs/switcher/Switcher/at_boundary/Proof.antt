@@ -1,3 +1,5 @@
+-- `at_boundary` meets its contract: past the last window no tick fires; in one the two tests that are left are the code's own.
+-- Assumes nothing.
 use borrow.Author.Needs.{needs}
 use mathlib.Core.Bool.{_&&_}
 use mathlib.Core.Path.{_≡_, sym, _∙_}
@@ -7,48 +9,34 @@ use Rattle.major_frame.specs.Switch.{atBoundary}
 use Rattle.major_frame.proofs.SwitchLaws.{no-boundary, boundary-test}
 use Rattle.major_frame.proofs.switcher.Switcher.at_boundary.Statement.{statement}
 use Rattle.major_frame.proofs.switcher.Switcher.at_boundary.Tie as tie
-use Rattle.major_frame.proofs.switcher.Switcher.at_boundary.Reads as reads
-use Rattle.major_frame.proofs.switcher.Switcher.at_boundary.Lts as lts
-use Rattle.major_frame.proofs.frame.window_end.Reads as window-end-reads
-use Rattle.major_frame.proofs.switcher.in_running.Reads as in-running-reads
 
--- src/switcher.rt:126:13
 in-running-requires : tie.Need-in-running-requires
 in-running-requires c κs = search needs
 
--- src/switcher.rt:128:13
 returns : tie.Need-returns
 returns c = sym (no-boundary _ _ (c .if1 .taken))
 
--- src/switcher.rt:131:18
 cast-at : tie.Need-cast-at
 cast-at c = search needs
 
--- src/switcher.rt:132:30
 mul-window-end : tie.Need-mul-window-end
 mul-window-end c = search needs
 
--- src/switcher.rt:132:30
 element-copy-out-window-end : tie.Need-element-copy-out-window-end
 element-copy-out-window-end c = search needs
 
--- src/switcher.rt:132:48
 mul-window-end-2 : tie.Need-mul-window-end-2
 mul-window-end-2 c = search needs
 
--- src/switcher.rt:132:48
 element-copy-out-window-end-2 : tie.Need-element-copy-out-window-end-2
 element-copy-out-window-end-2 c = search needs
 
--- src/switcher.rt:132:13
 window-end-requires : tie.Need-window-end-requires
 window-end-requires c κs = search needs
 
--- src/switcher.rt:133:21
 add-after : tie.Need-add-after
 add-after c = search needs
 
--- src/switcher.rt:121:5
 -- what is left to test once `cur` is known to be a window
 in-window : (c : tie.After-window-end)
     → atBoundary (c .before .before .before .before .before .before .args .self) (c .before .before .before .before .before .before .args .t)

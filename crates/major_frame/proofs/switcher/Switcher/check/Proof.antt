@@ -1,3 +1,5 @@
+-- `check` meets its contract: the frame's verdict first, then the two tests of `inv` that are left.
+-- Assumes nothing.
 use borrow.Author.Needs.{needs}
 use mathlib.Core.Path.{_≡_, sym, _∙_}
 use Rattle.refusal.specs.declared.Verdict.the-variants.{Accepted}
@@ -5,31 +7,22 @@ use Rattle.major_frame.specs.Frame.{frameVerdict}
 use Rattle.major_frame.proofs.SwitchLaws.{frame-refused, state-accepted, mark-strange, cur-strange}
 use Rattle.major_frame.proofs.switcher.Switcher.check.Statement.{statement}
 use Rattle.major_frame.proofs.switcher.Switcher.check.Tie as tie
-use Rattle.major_frame.proofs.switcher.Switcher.check.Reads as reads
-use Rattle.major_frame.proofs.switcher.Switcher.check.Lts as lts
-use Rattle.major_frame.proofs.frame.MajorFrame.check.Reads as check-reads
-use Rattle.major_frame.proofs.switcher.mark_fits.Reads as mark-fits-reads
 
--- src/switcher.rt:106:13
 check-requires : tie.Need-check-requires
 check-requires c κs = search needs
 
 enum-told : tie.Need-enum-told
 enum-told c = search needs
 
--- src/switcher.rt:108:13
 enum-told-2 : tie.Need-enum-told-2
 enum-told-2 c = search needs
 
--- src/switcher.rt:108:13
 returns : tie.Need-returns
 returns c = let told = c .enum-told2 .given in told .1 ∙ sym (frame-refused _ (told .0 .0) (sym (c .before .before .check .ensures) ∙ told .1))
 
--- src/switcher.rt:111:13
 mark-fits-requires : tie.Need-mark-fits-requires
 mark-fits-requires c κs = search needs
 
--- src/switcher.rt:114:17
 -- the frame was accepted, and the mark was tested
 frame-accepted : (c : tie.After-struct-known) → frameVerdict (c .before .before .before .before .before .args .self .frame) ≡ Accepted
 frame-accepted c = sym (c .before .before .before .before .check .ensures) ∙ c .before .before .enum-told .given .1
