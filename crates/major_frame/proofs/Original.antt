@@ -17,10 +17,10 @@ use Rattle.major_frame.specs.declared.switcher.SwPhase.the-variants.{Run
 use Rattle.major_frame.specs.declared.switcher.Switcher.{Switcher}
 use Rattle.major_frame.specs.declared.switcher.Stepped.{Stepped}
 use Rattle.major_frame.specs.Frame.{offsetAt, budgetAt, winEnd, FrameInv, InWindow, currentWindow}
-use Rattle.major_frame.specs.Switch.{Inv, Boundary, inRunning, inSaveCtx, inProgramRegions, inResume, stateVerdict, atBoundary, nextOf, stepped, started, preempted, saved, swappedIn, resumed, made, newOf, tickOf, markSavedOf, markSwappedOf, markResumedOf, runSwitchOf}
+use Rattle.major_frame.specs.Switch.{Inv, Boundary, inPhase, stateVerdict, atBoundary, nextOf, stepped, started, preempted, saved, swappedIn, resumed, made, newOf, tickOf, markSavedOf, markSwappedOf, markResumedOf, runSwitchOf}
 use Rattle.major_frame.specs.Original.{CurrentWindow, New, Tick, MarkSaved, MarkSwapped, MarkResumed, RunSwitch}
 use Rattle.major_frame.proofs.FrameLaws.{follow, inv-accepted as frame-inv-accepted, lookup-found}
-use Rattle.major_frame.proofs.SwitchLaws.{next-below, inv-accepted, boundary-test, step-taken, step-not-due, run-switches, save-failed, swap-failed, resume-failed, none-failed}
+use Rattle.major_frame.proofs.SwitchLaws.{in-phase, next-below, inv-accepted, boundary-test, step-taken, step-not-due, run-switches, save-failed, swap-failed, resume-failed, none-failed}
 
 inside : (f : MajorFrame) (i t : ℕ) → InWindow f i t → Holds (offsetAt f) (budgetAt f) i t
 inside f i t h = record { started = h .started; not-ended = h .not-ended }
@@ -60,41 +60,23 @@ module _ (f : MajorFrame) (h : FrameInv f) where
         refl,
       )
 
--- a phase's test is true exactly in that phase
-in-running : (p : SwPhase) → (inRunning p ≡ true) ↔ (p ≡ Running)
-in-running Running = (λ e. refl, λ e. refl)
-in-running SaveCtx = (λ e. cc, λ e. cc)
-in-running ProgramRegions = (λ e. cc, λ e. cc)
-in-running Resume = (λ e. cc, λ e. cc)
-
-in-save-ctx : (p : SwPhase) → (inSaveCtx p ≡ true) ↔ (p ≡ SaveCtx)
-in-save-ctx Running = (λ e. cc, λ e. cc)
-in-save-ctx SaveCtx = (λ e. refl, λ e. refl)
-in-save-ctx ProgramRegions = (λ e. cc, λ e. cc)
-in-save-ctx Resume = (λ e. cc, λ e. cc)
-
-in-program-regions : (p : SwPhase) → (inProgramRegions p ≡ true) ↔ (p ≡ ProgramRegions)
-in-program-regions Running = (λ e. cc, λ e. cc)
-in-program-regions SaveCtx = (λ e. cc, λ e. cc)
-in-program-regions ProgramRegions = (λ e. refl, λ e. refl)
-in-program-regions Resume = (λ e. cc, λ e. cc)
-
-in-resume : (p : SwPhase) → (inResume p ≡ true) ↔ (p ≡ Resume)
-in-resume Running = (λ e. cc, λ e. cc)
-in-resume SaveCtx = (λ e. cc, λ e. cc)
-in-resume ProgramRegions = (λ e. cc, λ e. cc)
-in-resume Resume = (λ e. refl, λ e. refl)
-
 never : true ≡ false → ⊥
 never e = let z : _≡_ {A = ℕ} 0 1 = cc in omega arith
+
+-- a test that is false refutes what it tests
+refuted : {A : Type 0} {due : Bool} → (due ≡ true) ↔ A → due ≡ false → A → ⊥
+refuted test e q = never (sym (test .1 q) ∙ e)
+
+not-done : {A : Type 0} → (A → ⊥) → (false ≡ true) ↔ A
+not-done no-way = (λ q. absurd (never (sym q)), λ q. absurd (no-way q))
 
 -- on a state that `inv` lets in a step is taken or not, as its test says
 module _ (s : Switcher) (h : Inv s) where
   boundary-says : (t : ℕ) → (atBoundary s t ≡ true) ↔ ((s .phase ≡ Running) × Boundary s t)
   boundary-says t =
       rw (boundary-test s t (h .cur-is-window)) (
-        λ e. let (p, b) = and-eq-true-iff _ _ .0 e in (in-running (s .phase) .0 p, eqb-true _ _ b),
-        λ q. and-eq-true-iff _ _ .1 (in-running (s .phase) .1 (q .0), eq-eqb _ _ (q .1)),
+        λ e. let (p, b) = and-eq-true-iff _ _ .0 e in (in-phase (s .phase) Running .0 p, eqb-true _ _ b),
+        λ q. and-eq-true-iff _ _ .1 (in-phase (s .phase) Running .1 (q .0), eq-eqb _ _ (q .1)),
       )
 
   moved-inv : (p : SwPhase) (m : Bool) (w : ℕ) → w < 4 → (p ≡ Resume → m ≡ true) → (p ≡ SaveCtx → m ≡ false) → (p ≡ ProgramRegions → m ≡ false)
@@ -130,8 +112,8 @@ module _ (s : Switcher) (h : Inv s) where
         inv = h;
         frame-kept = refl;
         cur-kept = refl;
-        switched = (λ q. absurd (never (sym q)), λ q. absurd (never (sym (boundary-says t .1 q) ∙ e)));
-        at-boundary = λ q c. absurd (never (sym (boundary-says t .1 (q, c)) ∙ e));
+        switched = not-done (refuted (boundary-says t) e);
+        at-boundary = λ q c. absurd (refuted (boundary-says t) e (q, c));
         off-boundary = λ q no-way. (q, refl);
         not-running = λ no-way. (refl, refl);
       })
@@ -139,8 +121,8 @@ module _ (s : Switcher) (h : Inv s) where
   pub mark-saved : MarkSaved s (markSavedOf s)
   unfolding markSavedOf
   mark-saved =
-      let test = in-save-ctx (s .phase) in
-      by-test (MarkSaved s) (inSaveCtx (s .phase)) (saved s)
+      let test = in-phase (s .phase) SaveCtx in
+      by-test (MarkSaved s) (inPhase (s .phase) SaveCtx) (saved s)
       (λ e.
       let p = test .0 e in
       record {
@@ -158,16 +140,16 @@ module _ (s : Switcher) (h : Inv s) where
         frame-kept = refl;
         cur-kept = refl;
         swapped-kept = refl;
-        ok = (λ q. absurd (never (sym q)), λ q. absurd (never (sym (test .1 q) ∙ e)));
-        steps = λ q. absurd (never (sym (test .1 q) ∙ e));
+        ok = not-done (refuted test e);
+        steps = λ q. absurd (refuted test e q);
         stays = λ no-way. refl;
       })
 
   pub mark-swapped : MarkSwapped s (markSwappedOf s)
   unfolding markSwappedOf
   mark-swapped =
-      let test = in-program-regions (s .phase) in
-      by-test (MarkSwapped s) (inProgramRegions (s .phase)) (swappedIn s)
+      let test = in-phase (s .phase) ProgramRegions in
+      by-test (MarkSwapped s) (inPhase (s .phase) ProgramRegions) (swappedIn s)
       (λ e.
       let p = test .0 e in
       record {
@@ -183,8 +165,8 @@ module _ (s : Switcher) (h : Inv s) where
         inv = h;
         frame-kept = refl;
         cur-kept = refl;
-        ok = (λ q. absurd (never (sym q)), λ q. absurd (never (sym (test .1 q) ∙ e)));
-        steps = λ q. absurd (never (sym (test .1 q) ∙ e));
+        ok = not-done (refuted test e);
+        steps = λ q. absurd (refuted test e q);
         stays = λ no-way. (refl, refl);
       })
 
@@ -203,8 +185,8 @@ module _ (s : Switcher) (h : Inv s) where
   pub mark-resumed : (MarkResumed s (markResumedOf s)) × (s .phase ≡ Resume → markResumedOf s .state .swapped ≡ true)
   unfolding markResumedOf
   mark-resumed =
-      let test = in-resume (s .phase) in
-      by-test (λ r. MarkResumed s r × (s .phase ≡ Resume → r .state .swapped ≡ true)) (inResume (s .phase)) (resumed s)
+      let test = in-phase (s .phase) Resume in
+      by-test (λ r. MarkResumed s r × (s .phase ≡ Resume → r .state .swapped ≡ true)) (inPhase (s .phase) Resume) (resumed s)
       (λ e.
       let p = test .0 e in (
         record {
@@ -220,11 +202,11 @@ module _ (s : Switcher) (h : Inv s) where
         record {
           inv = h;
           frame-kept = refl;
-          ok = (λ q. absurd (never (sym q)), λ q. absurd (never (sym (test .1 q) ∙ e)));
-          steps = λ q. absurd (never (sym (test .1 q) ∙ e));
+          ok = not-done (refuted test e);
+          steps = λ q. absurd (refuted test e q);
           stays = λ no-way. (refl, refl, refl);
         },
-        λ q. absurd (never (sym (test .1 q) ∙ e)),
+        λ q. absurd (refuted test e q),
       ))
 
   -- a switch from SaveCtx, by the first status that is not zero
@@ -235,7 +217,7 @@ module _ (s : Switcher) (h : Inv s) where
       → P (resumed (swappedIn (saved s)))
       → P (runSwitchOf s save swap resume .state)
   switch-cases P save swap resume p save-fails swap-fails resume-fails none-fails =
-      rw (run-switches s save swap resume (inv-accepted s h) (in-save-ctx (s .phase) .1 p))
+      rw (run-switches s save swap resume (inv-accepted s h) (in-phase (s .phase) SaveCtx .1 p))
       (elim (ℕ-discrete save 0) [
         | no a ↦ rw (save-failed s save swap resume a) (save-fails a)
         | yes a ↦

@@ -2,10 +2,10 @@
 -- Assumes nothing.
 use mathlib.Core.Bool.{Bool, true, false, cond, not, _&&_, and-eq-true-iff}
 use mathlib.Core.Logic.{_↔_}
-use mathlib.Core.Path.{_≡_, refl, ap}
-use Prim.Native.Nat.{ℕ, _+_, _≤_, _<_}
+use mathlib.Core.Path.{_≡_, refl, sym, _∙_, ap}
+use Prim.Native.Nat.{ℕ, zero, suc, _+_, _≤_, _<_}
 use native.Mathlib.Omega.{arith}
-use borrow.Author.Tests.{lt-ltb, le-ltb, eq-eqb, ne-eqb, ltb-true, not-true, not-false}
+use borrow.Author.Tests.{lt-ltb, le-ltb, eq-eqb, ne-eqb, eqb-true, ltb-true, not-true, not-false}
 use lib.Dec.{eqb, ltb}
 use Rattle.refusal.specs.declared.Refusal.{Refusal}
 use Rattle.refusal.specs.declared.Refusal.the-variants.{NoCallOpen, StrangeState}
@@ -19,7 +19,7 @@ use Rattle.major_frame.specs.declared.switcher.SwPhase.the-variants.{Run
 use Rattle.major_frame.specs.declared.switcher.Switcher.{Switcher}
 use Rattle.major_frame.specs.Frame.{winEnd, frameVerdict}
 use Rattle.major_frame.proofs.FrameLaws.{accepted-inv as frame-accepted-inv, inv-accepted as frame-inv-accepted}
-use Rattle.major_frame.specs.Switch.{Inv, inRunning, markFits, inSaveCtx, stateVerdict, atBoundary, nextOf, stepped, saved, swappedIn, resumed, saveCall, swapCall, resumeCall, switched, switchOf, ranSwitch, runSwitchOf}
+use Rattle.major_frame.specs.Switch.{Inv, phaseNumber, inPhase, markFits, stateVerdict, atBoundary, nextOf, stepped, saved, swappedIn, resumed, saveCall, swapCall, resumeCall, switched, switchOf, ranSwitch, runSwitchOf}
 
 pub next-below : (cur : ℕ) → nextOf cur < 4
 unfolding nextOf
@@ -28,6 +28,25 @@ next-below cur = go (ltb cur 3) refl
     go : (b : Bool) → ltb cur 3 ≡ b → cond b (cur + 1) 0 < 4
     go true e = omega (arith, ltb-true cur 3 e)
     go false e = omega arith
+
+phaseOf : ℕ → SwPhase
+phaseOf zero = Running
+phaseOf (suc zero) = SaveCtx
+phaseOf (suc (suc zero)) = ProgramRegions
+phaseOf (suc (suc (suc n))) = Resume
+
+phase-of : (p : SwPhase) → phaseOf (phaseNumber p) ≡ p
+unfolding phaseOf
+phase-of Running = refl
+phase-of SaveCtx = refl
+phase-of ProgramRegions = refl
+phase-of Resume = refl
+
+-- two phases of one number are one
+pub in-phase : (p q : SwPhase) → (inPhase p q ≡ true) ↔ (p ≡ q)
+unfolding inPhase
+in-phase p q =
+    (λ e. sym (phase-of p) ∙ ap phaseOf (eqb-true _ _ e) ∙ phase-of q, λ e. eq-eqb _ _ (ap phaseNumber e))
 
 -- the test of the mark is what `inv` says of it
 mark-says : (p : SwPhase) (m : Bool)
@@ -80,7 +99,7 @@ module _ (s : Switcher) where
   unfolding atBoundary
   no-boundary t h = rw (le-ltb (s .cur) 4 h)
 
-  pub boundary-test : (t : ℕ) → s .cur < 4 → atBoundary s t ≡ inRunning (s .phase) && eqb (t + 1) (winEnd (s .frame) (s .cur))
+  pub boundary-test : (t : ℕ) → s .cur < 4 → atBoundary s t ≡ inPhase (s .phase) Running && eqb (t + 1) (winEnd (s .frame) (s .cur))
   unfolding atBoundary
   boundary-test t h = rw (lt-ltb (s .cur) 4 h)
 
@@ -110,12 +129,12 @@ module _ (s : Switcher) where
     unfolding runSwitchOf ranSwitch orElse
     run-refused r e = rw e
 
-    pub run-outside : stateVerdict s ≡ Accepted → inSaveCtx (s .phase) ≡ false
+    pub run-outside : stateVerdict s ≡ Accepted → inPhase (s .phase) SaveCtx ≡ false
         → runSwitchOf s save swap resume ≡ switched s NotMade NotMade NotMade (Refused NoCallOpen)
     unfolding runSwitchOf ranSwitch orElse refuseIf
     run-outside e h = rw (e, h)
 
-    pub run-switches : stateVerdict s ≡ Accepted → inSaveCtx (s .phase) ≡ true
+    pub run-switches : stateVerdict s ≡ Accepted → inPhase (s .phase) SaveCtx ≡ true
         → runSwitchOf s save swap resume ≡ switchOf s save swap resume
     unfolding runSwitchOf ranSwitch orElse refuseIf
     run-switches e h = rw (e, h)

@@ -32,29 +32,16 @@ pub record Inv (s : Switcher) : Type 0 where
 abbrev pub Boundary : Switcher → ℕ → Type 0
 Boundary s t = t + 1 ≡ winEnd (s .frame) (s .cur)
 
-abbrev pub inRunning : SwPhase → Bool
-inRunning Running = true
-inRunning SaveCtx = false
-inRunning ProgramRegions = false
-inRunning Resume = false
+-- the phases in the order of a switch
+abbrev pub phaseNumber : SwPhase → ℕ
+phaseNumber Running = 0
+phaseNumber SaveCtx = 1
+phaseNumber ProgramRegions = 2
+phaseNumber Resume = 3
 
-abbrev pub inSaveCtx : SwPhase → Bool
-inSaveCtx Running = false
-inSaveCtx SaveCtx = true
-inSaveCtx ProgramRegions = false
-inSaveCtx Resume = false
-
-abbrev pub inProgramRegions : SwPhase → Bool
-inProgramRegions Running = false
-inProgramRegions SaveCtx = false
-inProgramRegions ProgramRegions = true
-inProgramRegions Resume = false
-
-abbrev pub inResume : SwPhase → Bool
-inResume Running = false
-inResume SaveCtx = false
-inResume ProgramRegions = false
-inResume Resume = true
+-- the two are one phase
+unfoldable pub inPhase : SwPhase → SwPhase → Bool
+inPhase p q = eqb (phaseNumber p) (phaseNumber q)
 
 -- what `inv` asks of the mark
 abbrev pub markFits : SwPhase → Bool → Bool
@@ -69,7 +56,7 @@ stateVerdict s =
 
 -- `tick` fires: in a window, Running, at the window's last tick
 unfoldable pub atBoundary : Switcher → ℕ → Bool
-atBoundary s t = ltb (s .cur) 4 && (inRunning (s .phase) && eqb (t + 1) (winEnd (s .frame) (s .cur)))
+atBoundary s t = ltb (s .cur) 4 && (inPhase (s .phase) Running && eqb (t + 1) (winEnd (s .frame) (s .cur)))
 
 -- the window after `cur`, window 0 after the last
 unfoldable pub nextOf : ℕ → ℕ
@@ -114,13 +101,13 @@ unfoldable pub tickOf : Switcher → ℕ → Stepped
 tickOf s t = stepped (stateVerdict s) s (atBoundary s t) (preempted s)
 
 unfoldable pub markSavedOf : Switcher → Stepped
-markSavedOf s = stepped (stateVerdict s) s (inSaveCtx (s .phase)) (saved s)
+markSavedOf s = stepped (stateVerdict s) s (inPhase (s .phase) SaveCtx) (saved s)
 
 unfoldable pub markSwappedOf : Switcher → Stepped
-markSwappedOf s = stepped (stateVerdict s) s (inProgramRegions (s .phase)) (swappedIn s)
+markSwappedOf s = stepped (stateVerdict s) s (inPhase (s .phase) ProgramRegions) (swappedIn s)
 
 unfoldable pub markResumedOf : Switcher → Stepped
-markResumedOf s = stepped (stateVerdict s) s (inResume (s .phase)) (resumed s)
+markResumedOf s = stepped (stateVerdict s) s (inPhase (s .phase) Resume) (resumed s)
 
 -- the calls of a switch: the outgoing owner is saved, the incoming one's regions are programmed, then it is resumed
 abbrev pub saveCall : Switcher → SeamCall
@@ -151,4 +138,4 @@ ranSwitch (Refused r) s done = switched s NotMade NotMade NotMade (Refused r)
 -- `run_switch`: 13 outside SaveCtx
 unfoldable pub runSwitchOf : Switcher → ℕ → ℕ → ℕ → Switched
 runSwitchOf s save swap resume =
-    ranSwitch (orElse (stateVerdict s) (refuseIf (not (inSaveCtx (s .phase))) NoCallOpen)) s (switchOf s save swap resume)
+    ranSwitch (orElse (stateVerdict s) (refuseIf (not (inPhase (s .phase) SaveCtx)) NoCallOpen)) s (switchOf s save swap resume)

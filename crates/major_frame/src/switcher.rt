@@ -2,7 +2,7 @@
 // by value and comes back in the answer; a refused one comes back as it went in.
 ghost use mathlib.Core.Path.{_≡_};
 ghost use Prim.Native.Nat.{_<_};
-ghost use Rattle.major_frame.specs.Switch.{nextOf, markFits, inRunning, inSaveCtx, inProgramRegions, inResume, stateVerdict, atBoundary, zeros, started, preempted, saved, swappedIn, resumed, stepped, newOf, tickOf, markSavedOf, markSwappedOf, markResumedOf, switched, switchOf, runSwitchOf};
+ghost use Rattle.major_frame.specs.Switch.{nextOf, markFits, phaseNumber, inPhase, stateVerdict, atBoundary, zeros, started, preempted, saved, swappedIn, resumed, stepped, newOf, tickOf, markSavedOf, markSwappedOf, markResumedOf, switched, switchOf, runSwitchOf};
 ghost use Rattle.major_frame.specs.Frame.{partitionAt};
 use crate::frame::LAST_WINDOW;
 use crate::frame::MajorFrame;
@@ -67,48 +67,21 @@ fn mark_fits(phase: SwPhase, swapped: bool) -> bool
     }
 }
 
-fn in_running(phase: SwPhase) -> bool
-    ensures { λ r. ⌜ r ≡ inRunning phase ⌝ }
+fn phase_number(phase: SwPhase) -> u32
+    ensures { λ r. ⌜ r ≡ phaseNumber phase ⌝ }
 {
     match phase {
-        SwPhase::Running => true,
-        SwPhase::SaveCtx => false,
-        SwPhase::ProgramRegions => false,
-        SwPhase::Resume => false,
+        SwPhase::Running => 0,
+        SwPhase::SaveCtx => 1,
+        SwPhase::ProgramRegions => 2,
+        SwPhase::Resume => 3,
     }
 }
 
-fn in_save_ctx(phase: SwPhase) -> bool
-    ensures { λ r. ⌜ r ≡ inSaveCtx phase ⌝ }
+fn in_phase(phase: SwPhase, other: SwPhase) -> bool
+    ensures { λ r. ⌜ r ≡ inPhase phase other ⌝ }
 {
-    match phase {
-        SwPhase::Running => false,
-        SwPhase::SaveCtx => true,
-        SwPhase::ProgramRegions => false,
-        SwPhase::Resume => false,
-    }
-}
-
-fn in_program_regions(phase: SwPhase) -> bool
-    ensures { λ r. ⌜ r ≡ inProgramRegions phase ⌝ }
-{
-    match phase {
-        SwPhase::Running => false,
-        SwPhase::SaveCtx => false,
-        SwPhase::ProgramRegions => true,
-        SwPhase::Resume => false,
-    }
-}
-
-fn in_resume(phase: SwPhase) -> bool
-    ensures { λ r. ⌜ r ≡ inResume phase ⌝ }
-{
-    match phase {
-        SwPhase::Running => false,
-        SwPhase::SaveCtx => false,
-        SwPhase::ProgramRegions => false,
-        SwPhase::Resume => true,
-    }
+    phase_number(phase) == phase_number(other)
 }
 
 impl Switcher {
@@ -136,7 +109,7 @@ impl Switcher {
     {
         let phase = self.phase;
         let cur = self.cur;
-        let running = in_running(phase);
+        let running = in_phase(phase, SwPhase::Running);
         if WINDOWS <= cur {
             return false;
         }
@@ -274,21 +247,21 @@ impl Switcher {
         ensures { λ r. ⌜ r ≡ markSavedOf self ⌝ }
     {
         let phase = self.phase;
-        self.step_if(in_save_ctx(phase), self.saved())
+        self.step_if(in_phase(phase, SwPhase::SaveCtx), self.saved())
     }
 
     pub fn mark_swapped(self) -> Stepped
         ensures { λ r. ⌜ r ≡ markSwappedOf self ⌝ }
     {
         let phase = self.phase;
-        self.step_if(in_program_regions(phase), self.swapped_in())
+        self.step_if(in_phase(phase, SwPhase::ProgramRegions), self.swapped_in())
     }
 
     pub fn mark_resumed(self) -> Stepped
         ensures { λ r. ⌜ r ≡ markResumedOf self ⌝ }
     {
         let phase = self.phase;
-        self.step_if(in_resume(phase), self.resumed())
+        self.step_if(in_phase(phase, SwPhase::Resume), self.resumed())
     }
 
     // Who owns window i.
@@ -358,7 +331,7 @@ impl Switcher {
             return self.switched(none, none, none, verdict);
         };
         let phase = self.phase;
-        if in_save_ctx(phase) {
+        if in_phase(phase, SwPhase::SaveCtx) {
             self.switch(save, swap, resume)
         } else {
             let refused = Verdict::Refused(Refusal::NoCallOpen);

@@ -10,8 +10,8 @@ use Rattle.major_frame.proofs.SwitchLaws.{no-boundary, boundary-test}
 use Rattle.major_frame.proofs.switcher.Switcher.at_boundary.Statement.{statement}
 use Rattle.major_frame.proofs.switcher.Switcher.at_boundary.Tie as tie
 
-in-running-requires : tie.Need-in-running-requires
-in-running-requires c κs = search needs
+in-phase-requires : tie.Need-in-phase-requires
+in-phase-requires c κs = search needs
 
 returns : tie.Need-returns
 returns c = sym (no-boundary _ _ (c .if1 .taken))
@@ -40,10 +40,10 @@ add-after c = search needs
 -- what is left to test once `cur` is known to be a window
 in-window : (c : tie.After-window-end)
     → atBoundary (c .before .before .before .before .before .before .args .self) (c .before .before .before .before .before .before .args .t)
-    ≡ c .before .before .before .before .before .in-running .result && eqb (c .before .before .before .before .before .before .args .t + 1) (c .window-end .result)
+    ≡ c .before .before .before .before .before .in-phase .result && eqb (c .before .before .before .before .before .before .args .t + 1) (c .window-end .result)
 in-window c =
     let e = c .before .before .before .before in
-    rw (c .window-end .ensures, e .before .in-running .ensures) (boundary-test (e .before .before .args .self) (e .before .before .args .t) (e .if1 .left))
+    rw (c .window-end .ensures, e .before .in-phase .ensures) (boundary-test (e .before .before .args .self) (e .before .before .args .t) (e .if1 .left))
 
 returns-2 : tie.Need-returns-2
 returns-2 c = sym (rw (c .if2 .taken) at (in-window (c .before)))
@@ -55,7 +55,7 @@ pub at-boundary-spec : {M : Type 1} → statement M
 at-boundary-spec =
     tie.close
     (tie.spec
-    in-running-requires
+    in-phase-requires
     returns
     cast-at
     mul-window-end

@@ -6,8 +6,8 @@ use mathlib.Core.Path.{_∙_, ap₂}
 use Rattle.major_frame.proofs.switcher.Switcher.mark_resumed.Statement.{statement}
 use Rattle.major_frame.proofs.switcher.Switcher.mark_resumed.Tie as tie
 
-in-resume-requires : tie.Need-in-resume-requires
-in-resume-requires c κs = search needs
+in-phase-requires : tie.Need-in-phase-requires
+in-phase-requires c κs = search needs
 
 resumed-requires : tie.Need-resumed-requires
 resumed-requires c κs = search needs
@@ -17,8 +17,8 @@ step-if-requires c κs = search needs
 
 returns : tie.Need-returns
 unfolding markResumedOf
-returns c = c .step-if .ensures ∙ ap₂ (stepped _ _) (c .before .before .in-resume .ensures) (c .before .resumed .ensures)
+returns c = c .step-if .ensures ∙ ap₂ (stepped _ _) (c .before .before .in-phase .ensures) (c .before .resumed .ensures)
 
 pub mark-resumed-spec : {M : Type 1} → statement M
 mark-resumed-spec =
-    tie.close (tie.spec in-resume-requires resumed-requires step-if-requires returns)
+    tie.close (tie.spec in-phase-requires resumed-requires step-if-requires returns)

@@ -6,8 +6,8 @@ use mathlib.Core.Path.{_∙_, ap₂}
 use Rattle.major_frame.proofs.switcher.Switcher.mark_saved.Statement.{statement}
 use Rattle.major_frame.proofs.switcher.Switcher.mark_saved.Tie as tie
 
-in-save-ctx-requires : tie.Need-in-save-ctx-requires
-in-save-ctx-requires c κs = search needs
+in-phase-requires : tie.Need-in-phase-requires
+in-phase-requires c κs = search needs
 
 saved-requires : tie.Need-saved-requires
 saved-requires c κs = search needs
@@ -17,7 +17,7 @@ step-if-requires c κs = search needs
 
 returns : tie.Need-returns
 unfolding markSavedOf
-returns c = c .step-if .ensures ∙ ap₂ (stepped _ _) (c .before .before .in-save-ctx .ensures) (c .before .saved .ensures)
+returns c = c .step-if .ensures ∙ ap₂ (stepped _ _) (c .before .before .in-phase .ensures) (c .before .saved .ensures)
 
 pub mark-saved-spec : {M : Type 1} → statement M
-mark-saved-spec = tie.close (tie.spec in-save-ctx-requires saved-requires step-if-requires returns)
+mark-saved-spec = tie.close (tie.spec in-phase-requires saved-requires step-if-requires returns)

@@ -6,8 +6,8 @@ use mathlib.Core.Path.{_∙_, ap₂}
 use Rattle.major_frame.proofs.switcher.Switcher.mark_swapped.Statement.{statement}
 use Rattle.major_frame.proofs.switcher.Switcher.mark_swapped.Tie as tie
 
-in-program-regions-requires : tie.Need-in-program-regions-requires
-in-program-regions-requires c κs = search needs
+in-phase-requires : tie.Need-in-phase-requires
+in-phase-requires c κs = search needs
 
 swapped-in-requires : tie.Need-swapped-in-requires
 swapped-in-requires c κs = search needs
@@ -17,8 +17,8 @@ step-if-requires c κs = search needs
 
 returns : tie.Need-returns
 unfolding markSwappedOf
-returns c = c .step-if .ensures ∙ ap₂ (stepped _ _) (c .before .before .in-program-regions .ensures) (c .before .swapped-in .ensures)
+returns c = c .step-if .ensures ∙ ap₂ (stepped _ _) (c .before .before .in-phase .ensures) (c .before .swapped-in .ensures)
 
 pub mark-swapped-spec : {M : Type 1} → statement M
 mark-swapped-spec =
-    tie.close (tie.spec in-program-regions-requires swapped-in-requires step-if-requires returns)
+    tie.close (tie.spec in-phase-requires swapped-in-requires step-if-requires returns)

@@ -26,11 +26,11 @@ returns c =
     rw (c .switched .ensures, told .1)
     (sym (run-refused _ _ _ _ (told .0 .0) (sym (c .before .before .before .check .ensures) ∙ told .1)))
 
-in-save-ctx-requires : tie.Need-in-save-ctx-requires
-in-save-ctx-requires c κs = search needs
+in-phase-requires : tie.Need-in-phase-requires
+in-phase-requires c κs = search needs
 
 -- the state was accepted
-accepted : (c : tie.After-in-save-ctx) → stateVerdict (c .before .before .before .before .args .self) ≡ Accepted
+accepted : (c : tie.After-in-phase) → stateVerdict (c .before .before .before .before .args .self) ≡ Accepted
 accepted c = sym (c .before .before .before .check .ensures) ∙ c .before .enum-told .given .1
 
 switch-requires : tie.Need-switch-requires
@@ -42,12 +42,12 @@ switched-requires-2 c κs = search needs
 returns-2 : tie.Need-returns-2
 returns-2 c =
     let at = c .before .before in
-    c .switch .ensures ∙ sym (run-switches _ _ _ _ (accepted at) (sym (at .in-save-ctx .ensures) ∙ c .before .if1 .taken))
+    c .switch .ensures ∙ sym (run-switches _ _ _ _ (accepted at) (sym (at .in-phase .ensures) ∙ c .before .if1 .taken))
 
 returns-3 : tie.Need-returns-3
 returns-3 c =
     let at = c .before .before in
-    c .switched2 .ensures ∙ sym (run-outside _ _ _ _ (accepted at) (sym (at .in-save-ctx .ensures) ∙ c .before .if1 .left))
+    c .switched2 .ensures ∙ sym (run-outside _ _ _ _ (accepted at) (sym (at .in-phase .ensures) ∙ c .before .if1 .left))
 
 pub run-switch-spec : {M : Type 1} → statement M
 run-switch-spec =
@@ -58,7 +58,7 @@ run-switch-spec =
     enum-told-2
     switched-requires
     returns
-    in-save-ctx-requires
+    in-phase-requires
     switch-requires
     switched-requires-2
     returns-2
