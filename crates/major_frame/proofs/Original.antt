@@ -70,6 +70,24 @@ refuted test e q = never (sym (test .1 q) ∙ e)
 not-done : {A : Type 0} → (A → ⊥) → (false ≡ true) ↔ A
 not-done no-way = (λ q. absurd (never (sym q)), λ q. absurd (no-way q))
 
+-- each maker keeps `inv`
+moved-inv : (s : Switcher) (p : SwPhase) (m : Bool) (w : ℕ) → Inv s → w < 4 → (p ≡ Resume → m ≡ true) → (p ≡ SaveCtx → m ≡ false)
+    → (p ≡ ProgramRegions → m ≡ false) → Inv (record { frame = s .frame; cur = w; phase = p; swapped = m })
+moved-inv s p m w h k a b c =
+    record { frame-inv = h .frame-inv; cur-is-window = k; resume-is-swapped = a; save-is-not-swapped = b; program-is-not-swapped = c }
+
+preempted-inv : (s : Switcher) → Inv s → Inv (preempted s)
+preempted-inv s h = moved-inv s SaveCtx false (s .cur) h (h .cur-is-window) (λ q. cc) (λ q. refl) (λ q. cc)
+
+saved-inv : (s : Switcher) → Inv s → s .phase ≡ SaveCtx → Inv (saved s)
+saved-inv s h p = moved-inv s ProgramRegions (s .swapped) (s .cur) h (h .cur-is-window) (λ q. cc) (λ q. cc) (λ q. h .save-is-not-swapped p)
+
+swapped-in-inv : (s : Switcher) → Inv s → Inv (swappedIn s)
+swapped-in-inv s h = moved-inv s Resume true (s .cur) h (h .cur-is-window) (λ q. refl) (λ q. cc) (λ q. cc)
+
+resumed-inv : (s : Switcher) → Inv s → Inv (resumed s)
+resumed-inv s h = moved-inv s Running (s .swapped) (nextOf (s .cur)) h (next-below (s .cur)) (λ q. cc) (λ q. cc) (λ q. cc)
+
 -- on a state that `inv` lets in a step is taken or not, as its test says
 module _ (s : Switcher) (h : Inv s) where
   boundary-says : (t : ℕ) → (atBoundary s t ≡ true) ↔ ((s .phase ≡ Running) × Boundary s t)
@@ -78,11 +96,6 @@ module _ (s : Switcher) (h : Inv s) where
         λ e. let (p, b) = and-eq-true-iff _ _ .0 e in (in-phase (s .phase) Running .0 p, eqb-true _ _ b),
         λ q. and-eq-true-iff _ _ .1 (in-phase (s .phase) Running .1 (q .0), eq-eqb _ _ (q .1)),
       )
-
-  moved-inv : (p : SwPhase) (m : Bool) (w : ℕ) → w < 4 → (p ≡ Resume → m ≡ true) → (p ≡ SaveCtx → m ≡ false) → (p ≡ ProgramRegions → m ≡ false)
-      → Inv (record { frame = s .frame; cur = w; phase = p; swapped = m })
-  moved-inv p m w k a b c =
-      record { frame-inv = h .frame-inv; cur-is-window = k; resume-is-swapped = a; save-is-not-swapped = b; program-is-not-swapped = c }
 
   -- what holds of the step taken and of the step not taken holds of the step
   by-test : (P : Stepped → Type 0) (due : Bool) (next : Switcher)
@@ -99,7 +112,7 @@ module _ (s : Switcher) (h : Inv s) where
       (λ e.
       let (p, b) = boundary-says t .0 e in
       record {
-        inv = moved-inv SaveCtx false (s .cur) (h .cur-is-window) (λ q. cc) (λ q. refl) (λ q. cc);
+        inv = preempted-inv s h;
         frame-kept = refl;
         cur-kept = refl;
         switched = (λ q. (p, b), λ q. refl);
@@ -126,7 +139,7 @@ module _ (s : Switcher) (h : Inv s) where
       (λ e.
       let p = test .0 e in
       record {
-        inv = moved-inv ProgramRegions (s .swapped) (s .cur) (h .cur-is-window) (λ q. cc) (λ q. cc) (λ q. h .save-is-not-swapped p);
+        inv = saved-inv s h p;
         frame-kept = refl;
         cur-kept = refl;
         swapped-kept = refl;
@@ -153,7 +166,7 @@ module _ (s : Switcher) (h : Inv s) where
       (λ e.
       let p = test .0 e in
       record {
-        inv = moved-inv Resume true (s .cur) (h .cur-is-window) (λ q. refl) (λ q. cc) (λ q. cc);
+        inv = swapped-in-inv s h;
         frame-kept = refl;
         cur-kept = refl;
         ok = (λ q. p, λ q. refl);
@@ -190,7 +203,7 @@ module _ (s : Switcher) (h : Inv s) where
       (λ e.
       let p = test .0 e in (
         record {
-          inv = moved-inv Running (s .swapped) (nextOf (s .cur)) (next-below (s .cur)) (λ q. cc) (λ q. cc) (λ q. cc);
+          inv = resumed-inv s h;
           frame-kept = refl;
           ok = (λ q. p, λ q. refl);
           steps = λ q. (refl, next-is);
@@ -236,7 +249,8 @@ module _ (s : Switcher) (h : Inv s) where
       → (RunSwitch s save swap resume (runSwitchOf s save swap resume .state))
       × (save ≡ 0 → swap ≡ 0 → resume ≡ 0 → runSwitchOf s save swap resume .state .swapped ≡ true)
   run-switch save swap resume p =
-      let k = h .cur-is-window in
+      let kept = saved-inv s h p in
+      let programmed = swapped-in-inv (saved s) kept in
       switch-cases (λ r. RunSwitch s save swap resume r × (save ≡ 0 → swap ≡ 0 → resume ≡ 0 → r .swapped ≡ true)) save swap resume p
       (λ fails. (
         record {
@@ -249,7 +263,7 @@ module _ (s : Switcher) (h : Inv s) where
       ))
       (λ fails. (
         record {
-          inv = moved-inv ProgramRegions (s .swapped) (s .cur) k (λ q. cc) (λ q. cc) (λ q. h .save-is-not-swapped p);
+          inv = kept;
           frame-kept = refl;
           running = λ a b c. absurd (fails b);
           next-window = λ a b c. absurd (fails b);
@@ -258,7 +272,7 @@ module _ (s : Switcher) (h : Inv s) where
       ))
       (λ fails. (
         record {
-          inv = moved-inv Resume true (s .cur) k (λ q. refl) (λ q. cc) (λ q. cc);
+          inv = programmed;
           frame-kept = refl;
           running = λ a b c. absurd (fails c);
           next-window = λ a b c. absurd (fails c);
@@ -266,7 +280,7 @@ module _ (s : Switcher) (h : Inv s) where
         λ a b c. absurd (fails c),
       )) (
         record {
-          inv = moved-inv Running true (nextOf (s .cur)) (next-below (s .cur)) (λ q. cc) (λ q. cc) (λ q. cc);
+          inv = resumed-inv (swappedIn (saved s)) programmed;
           frame-kept = refl;
           running = λ a b c. refl;
           next-window = λ a b c. next-is;

@@ -4,6 +4,7 @@ use mathlib.Core.Bool.{Bool, true, false, cond, not, _&&_, and-eq-true-iff}
 use mathlib.Core.Logic.{_↔_}
 use mathlib.Core.Path.{_≡_, refl, sym, _∙_, ap}
 use Prim.Native.Nat.{ℕ, zero, suc, _+_, _≤_, _<_}
+use native.Mathlib.Decide.{ℕ-discrete}
 use native.Mathlib.Omega.{arith}
 use borrow.Author.Tests.{lt-ltb, le-ltb, eq-eqb, ne-eqb, eqb-true, ltb-true, not-true, not-false}
 use lib.Dec.{eqb, ltb}
@@ -19,7 +20,8 @@ use Rattle.major_frame.specs.declared.switcher.SwPhase.the-variants.{Run
 use Rattle.major_frame.specs.declared.switcher.Switcher.{Switcher}
 use Rattle.major_frame.specs.Frame.{winEnd, frameVerdict}
 use Rattle.major_frame.proofs.FrameLaws.{accepted-inv as frame-accepted-inv, inv-accepted as frame-inv-accepted}
-use Rattle.major_frame.specs.Switch.{Inv, phaseNumber, inPhase, markFits, stateVerdict, atBoundary, nextOf, stepped, saved, swappedIn, resumed, saveCall, swapCall, resumeCall, switched, switchOf, ranSwitch, runSwitchOf}
+use Rattle.major_frame.specs.Switch.{Inv, phaseNumber, inPhase, markFits, stateVerdict, atBoundary, nextOf, stepped, saved, swappedIn, resumed, saveCall, swapCall, resumeCall, switched, switchOf, switchWords, ranSwitch, runSwitchOf}
+use Rattle.major_frame.specs.Seam.{callsWords}
 
 pub next-below : (cur : ℕ) → nextOf cur < 4
 unfolding nextOf
@@ -123,6 +125,23 @@ module _ (s : Switcher) where
         → switchOf s save swap resume ≡ switched (resumed (swappedIn (saved s))) (saveCall s) (swapCall s) (resumeCall s) Accepted
     unfolding switchOf
     none-failed a b c = rw (eq-eqb save 0 a, eq-eqb swap 0 b, eq-eqb resume 0 c)
+
+    -- the calls, in document 01's numbers
+    pub switch-words : callsWords (switchOf s save swap resume .calls) ≡ switchWords s save swap
+    unfolding switchWords
+    switch-words =
+        elim (ℕ-discrete save 0) [
+          | no a ↦ rw (save-failed a, ne-eqb save 0 a)
+          | yes a ↦
+              elim (ℕ-discrete swap 0) [
+                | no b ↦ rw (swap-failed a b, eq-eqb save 0 a, ne-eqb swap 0 b)
+                | yes b ↦
+                    elim (ℕ-discrete resume 0) [
+                      | no c ↦ rw (resume-failed a b c, eq-eqb save 0 a, eq-eqb swap 0 b)
+                      | yes c ↦ rw (none-failed a b c, eq-eqb save 0 a, eq-eqb swap 0 b)
+                    ]
+              ]
+        ]
 
     pub run-refused : (r : Refusal) → stateVerdict s ≡ Refused r
         → runSwitchOf s save swap resume ≡ switched s NotMade NotMade NotMade (Refused r)

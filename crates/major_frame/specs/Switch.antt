@@ -139,3 +139,10 @@ ranSwitch (Refused r) s done = switched s NotMade NotMade NotMade (Refused r)
 unfoldable pub runSwitchOf : Switcher → ℕ → ℕ → ℕ → Switched
 runSwitchOf s save swap resume =
     ranSwitch (orElse (stateVerdict s) (refuseIf (not (inPhase (s .phase) SaveCtx)) NoCallOpen)) s (switchOf s save swap resume)
+
+-- the calls of a switch in document 01's numbers: 1 save, 2 swap, 3 resume, each with its partition; a nonzero status ends them
+unfoldable pub switchWords : Switcher → ℕ → ℕ → List ℕ
+switchWords s save swap =
+    let outgoing = partitionAt (s .frame) (s .cur) in
+    let incoming = partitionAt (s .frame) (nextOf (s .cur)) in
+    1 ∷ outgoing ∷ cond (eqb save 0) (2 ∷ incoming ∷ cond (eqb swap 0) (3 ∷ incoming ∷ []) []) []

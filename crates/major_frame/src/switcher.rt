@@ -140,7 +140,7 @@ impl Switcher {
             frame,
             cur: 0,
             phase: SwPhase::Running,
-            swapped: false, // no regions have been programmed
+            swapped: false, // nothing is programmed yet
         }
     }
 
@@ -152,7 +152,7 @@ impl Switcher {
             frame,
             cur: self.cur,
             phase: SwPhase::SaveCtx,
-            swapped: false, // those of the partition that goes
+            swapped: false, // what is programmed is for the partition that goes
         }
     }
 

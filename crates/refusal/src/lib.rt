@@ -5,8 +5,10 @@ ghost use Rattle.refusal.specs.Table.{numberOf, placeOf, hostCodeOf};
 
 pub mod code;
 
-// Named for what is wrong. A case that concerns one window or one row holds its number; every other place is 0.
+// Document 01's refusals in the order of their numbers, 1 to 17, named for what is wrong. A case that concerns one window or
+// one row holds its number; every other place is 0.
 pub enum Refusal {
+    // of a plan
     Counts,
     ZeroBudget(u32),
     WrongStart(u32),
@@ -18,6 +20,7 @@ pub enum Refusal {
     BadAccess(u32),
     NinthRow(u32),
     Clash(u32),
+    // of what is asked of an accepted plan
     TickPastFrame,
     NoCallOpen,
     Stopped,
