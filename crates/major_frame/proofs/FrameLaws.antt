@@ -1,19 +1,18 @@
 -- What the check's loop does, in terms of the frame's verdict: at window i the verdict is what the tests from i on say. And
 -- the verdict accepts exactly if `frame_inv` holds, which is that four windows follow one another.
 -- Assumes nothing.
-use mathlib.Core.Bool.{false, not}
 use mathlib.Core.Logic.{_↔_, _⊎_, ⊎-map, Iff·rfl}
-use mathlib.Core.Path.{_≡_, refl, sym, ap}
+use mathlib.Core.Path.{_≡_, refl, sym}
 use Prim.Native.Nat.{ℕ, zero, suc, _+_, _-_, _≤_, _<_}
 use native.Mathlib.Omega.{arith}
-use borrow.Author.Tests.{eq-eqb, ne-eqb, le-leb, lt-leb, eqb-true, eqb-false, not-false}
-use lib.Dec.{eqb}
+use borrow.Author.Tests.{ne-eqb, le-leb, lt-leb}
 use Rattle.refusal.specs.declared.Refusal.{Refusal}
 use Rattle.refusal.specs.declared.Refusal.the-variants.{WrongLength, TickPastFrame}
 use Rattle.refusal.specs.declared.Verdict.{Verdict}
 use Rattle.refusal.specs.declared.Verdict.the-variants.{Accepted, Refused}
 use Rattle.refusal.specs.First.{refuseIf, orElse, firstFault, FirstAt}
 use Rattle.refusal.proofs.First.{refuses-if, both-accept, one-refuses, first-refuses, each-accepts, goes-on, stops, ends}
+use Rattle.refusal.proofs.Tests.{equal, positive}
 use Rattle.timeline.specs.Windows.{Follow, windowAt}
 use Rattle.timeline.proofs.Laws.{ends-in-frame}
 use Rattle.major_frame.specs.declared.frame.MajorFrame.{MajorFrame}
@@ -46,13 +45,7 @@ four P a b c d (suc (suc zero)) h = c
 four P a b c d (suc (suc (suc zero))) h = d
 four P a b c d (suc (suc (suc (suc i)))) h = absurd (omega arith)
 
--- one test passes exactly if the window is as it should be
-equal : (a b : ℕ) → (not (eqb a b) ≡ false) ↔ (a ≡ b)
-equal a b = (λ e. eqb-true a b (not-false (eqb a b) e), λ e. ap not (eq-eqb a b e))
-
-positive : (a : ℕ) → (eqb a 0 ≡ false) ↔ (0 < a)
-positive a = (λ e. let no-way = eqb-false a 0 e in omega arith, λ h. ne-eqb a 0 (λ e. omega arith))
-
+-- the tests of a window pass exactly if it is as it should be
 window-accepted : (i start offset budget : ℕ) → (windowFault i start offset budget ≡ Accepted) ↔ ((0 < budget) × (offset ≡ start))
 unfolding windowFault
 window-accepted i start offset budget = simp (both-accept, refuses-if, equal, positive) Iff·rfl
@@ -153,3 +146,11 @@ module _ (f : MajorFrame) where
       → currentWindow f t ≡ record { window = windowAt 4 (offsetAt f) (budgetAt f) t; verdict = Accepted }
   unfolding currentWindow lookupVerdict located orElse refuseIf
   lookup-found t e h = rw (e, lt-leb (f .«frame_len») t h)
+
+  pub lookup-verdict : (t : ℕ) → currentWindow f t .verdict ≡ lookupVerdict f t
+  unfolding currentWindow located
+  lookup-verdict t = of (lookupVerdict f t)
+    where
+      of : (v : Verdict) → located v (windowAt 4 (offsetAt f) (budgetAt f) t) .verdict ≡ v
+      of Accepted = refl
+      of (Refused r) = refl

@@ -2,16 +2,21 @@
 -- first test that refuses does so with r. By induction on how many tests are left.
 -- Assumes nothing.
 use mathlib.Core.Bool.{Bool, true, false}
+use mathlib.Core.List.{List, [], _∷_, _++_}
 use mathlib.Core.Logic.{_↔_, _⊎_, inl, inr}
-use mathlib.Core.Path.{_≡_, refl, _∙_}
+use mathlib.Core.Path.{_≡_, refl, sym, ap, _∙_}
 use Prim.Native.Nat.{ℕ, zero, suc, _+_, _-_, _≤_, _<_}
+use native.Mathlib.Nat.{sub-zero}
 use native.Mathlib.Numerals.{add-one}
 use native.Mathlib.Decide.{ℕ-discrete}
 use native.Mathlib.Omega.{arith}
+use lib.ListN.{length, getD, take, drop, length-append, List·getD-append}
+use lib.Seq.{split-at, length-take-le, getD-take, getD-append-seam}
 use Rattle.refusal.specs.declared.Refusal.{Refusal}
+use Rattle.refusal.specs.declared.Refusal.the-variants.{Counts}
 use Rattle.refusal.specs.declared.Verdict.{Verdict}
 use Rattle.refusal.specs.declared.Verdict.the-variants.{Accepted, Refused}
-use Rattle.refusal.specs.First.{refuseIf, orElse, firstFault, FirstAt}
+use Rattle.refusal.specs.First.{refuseIf, orElse, refused, firstFault, FirstAt, upward, testAt, firstOf, FirstIn}
 
 pub never-both : {r : Refusal} → Accepted ≡ Refused r → ⊥
 never-both e = let z : _≡_ {A = ℕ} 0 1 = cc in omega arith
@@ -21,6 +26,31 @@ pub refuses-if : (fault : Bool) (r : Refusal) → (refuseIf fault r ≡ Accepted
 unfolding refuseIf
 refuses-if true r = (λ e. cc, λ e. cc)
 refuses-if false r = (λ e. refl, λ e. refl)
+
+pub fault-found : (fault : Bool) (r s : Refusal) → refuseIf fault r ≡ Refused s → fault ≡ true
+unfolding refuseIf
+fault-found true r s e = refl
+fault-found false r s e = absurd (never-both e)
+
+own-refusal : (fault : Bool) (r s : Refusal) → refuseIf fault r ≡ Refused s → r ≡ s
+unfolding refuseIf
+own-refusal true r s e = cc
+own-refusal false r s e = absurd (never-both e)
+
+refuses-true : (r : Refusal) → refuseIf true r ≡ Refused r
+unfolding refuseIf
+refuses-true r = refl
+
+-- inside a list the default does not matter
+in-range : (rs : List Refusal) (i : ℕ) (r s : Refusal) → i < length rs → getD rs i r ≡ getD rs i s
+in-range [] i r s h = absurd (omega arith)
+in-range (x ∷ rs) zero r s h = refl
+in-range (x ∷ rs) (suc i) r s h = in-range rs i r s (omega arith)
+
+pub not-refused : (v : Verdict) → (refused v ≡ false) ↔ (v ≡ Accepted)
+unfolding refused
+not-refused Accepted = (λ e. refl, λ e. refl)
+not-refused (Refused r) = (λ e. cc, λ e. cc)
 
 -- two in a row
 pub both-accept : (v w : Verdict) → (orElse v w ≡ Accepted) ↔ ((v ≡ Accepted) × (w ≡ Accepted))
@@ -100,7 +130,10 @@ module _ (test : ℕ → Verdict) where
             }))
       ]
 
-  -- the fold's steps, for a loop that counts i up to n: the test passes, it refuses, none is left
+  -- the fold's steps, for a loop that counts i up to n: none is done, the test passes, it refuses, none is left
+  pub starts : (n : ℕ) → firstFault test 0 n ≡ firstFault test 0 (n - 0)
+  starts n = ap (firstFault test 0) (sym (sub-zero n))
+
   pub goes-on : (n i : ℕ) → i < n → test i ≡ Accepted → firstFault test i (n - i) ≡ firstFault test (i + 1) (n - (i + 1))
   unfolding firstFault orElse
   goes-on n i h e =
@@ -118,3 +151,88 @@ module _ (test : ℕ → Verdict) where
   ends n i h =
       let none : n - i ≡ 0 = omega arith in
       rw none
+
+pub or-accepted : (v : Verdict) → orElse v Accepted ≡ v
+unfolding orElse
+or-accepted Accepted = refl
+or-accepted (Refused r) = refl
+
+pub or-assoc : (u v w : Verdict) → orElse (orElse u v) w ≡ orElse u (orElse v w)
+unfolding orElse
+or-assoc Accepted v w = refl
+or-assoc (Refused r) v w = refl
+
+-- a fold whose tests all refuse with r is one test for r
+pub one-kind : (fault : ℕ → Bool) (r : Refusal) (first left : ℕ)
+    → refuseIf (refused (firstFault (λ i. refuseIf (fault i) r) first left)) r ≡ firstFault (λ i. refuseIf (fault i) r) first left
+unfolding firstFault orElse refuseIf refused
+one-kind fault r first zero = refl
+one-kind fault r first (suc left) = step (fault first) (one-kind fault r (suc first) left)
+  where
+    step : (b : Bool)
+        → refuseIf (refused (firstFault (λ i. refuseIf (fault i) r) (suc first) left)) r ≡ firstFault (λ i. refuseIf (fault i) r) (suc first) left
+        → refuseIf (refused (orElse (refuseIf b r) (firstFault (λ i. refuseIf (fault i) r) (suc first) left))) r
+        ≡ orElse (refuseIf b r) (firstFault (λ i. refuseIf (fault i) r) (suc first) left)
+    step true e = refl
+    step false e = e
+
+-- a fold from the next place on is one over the later tests
+later : (test : ℕ → Verdict) (first left : ℕ) → firstFault test (suc first) left ≡ firstFault (λ i. test (suc i)) first left
+unfolding firstFault
+later test first zero = refl
+later test first (suc left) = ap (orElse (test (suc first))) (later test (suc first) left)
+
+-- the same fold over a list of refusals: lists one after the other, place by place, and the law
+module _ (wrong : Refusal → Bool) where
+  pub first-of-cons : (x : Refusal) (xs : List Refusal) → firstOf wrong (x ∷ xs) ≡ orElse (refuseIf (wrong x) x) (firstOf wrong xs)
+  unfolding firstOf firstFault testAt
+  first-of-cons x xs = ap (orElse (refuseIf (wrong x) x)) (later (testAt wrong (x ∷ xs)) 0 (length xs))
+
+  pub first-of-both : (xs ys : List Refusal) → firstOf wrong (xs ++ ys) ≡ orElse (firstOf wrong xs) (firstOf wrong ys)
+  unfolding firstOf firstFault orElse
+  first-of-both [] ys = refl
+  first-of-both (x ∷ xs) ys =
+      first-of-cons x (xs ++ ys)
+      ∙ ap (orElse (refuseIf (wrong x) x)) (first-of-both xs ys)
+      ∙ sym (or-assoc (refuseIf (wrong x) x) (firstOf wrong xs) (firstOf wrong ys))
+      ∙ ap (λ (v : Verdict). orElse v (firstOf wrong ys)) (sym (first-of-cons x xs))
+
+  pub first-upward : (at : ℕ → List Refusal) (first left : ℕ)
+      → firstOf wrong (upward at first left) ≡ firstFault (λ i. firstOf wrong (at i)) first left
+  unfolding upward firstFault firstOf
+  first-upward at first zero = refl
+  first-upward at first (suc left) =
+      first-of-both (at first) (upward at (suc first) left) ∙ ap (orElse (firstOf wrong (at first))) (first-upward at (suc first) left)
+
+  pub first-in : (order : List Refusal) (r : Refusal) → firstOf wrong order ≡ Refused r → FirstIn wrong order r
+  unfolding firstOf testAt
+  first-in order r e =
+      let (at, f) = first-refuses (testAt wrong order) 0 (length order) r e in
+      let reached : at < length order = omega arith in
+      let this = own-refusal (wrong (getD order at Counts)) (getD order at Counts) r (f .refuses) in
+      record {
+        before = take at order;
+        after = drop (suc at) order;
+        stands = split-at order at Counts reached ∙ ap (λ (s : Refusal). take at order ++ (s ∷ drop (suc at) order)) this;
+        is-wrong = sym (ap wrong this) ∙ fault-found (wrong (getD order at Counts)) (getD order at Counts) r (f .refuses);
+        none-before =
+            λ i h.
+            let below : i < at = omega (arith, length-take-le at order (omega arith)) in
+            ap wrong (getD-take at order i r below ∙ in-range order i r Counts (omega arith)) ∙ refuses-if _ _ .0 (f .none-before i (omega arith) below);
+      }
+
+  pub in-first : (order : List Refusal) (r : Refusal) → FirstIn wrong order r → firstOf wrong order ≡ Refused r
+  unfolding firstOf testAt
+  in-first order r f =
+      let long : length order ≡ length (f .before) + suc (length (f .after)) = ap length (f .stands) ∙ length-append (f .before) (r ∷ f .after) in
+      let this : getD order (length (f .before)) Counts ≡ r = ap (λ (o : List Refusal). getD o (length (f .before)) Counts) (f .stands) ∙ getD-append-seam (f .before) r (f .after) Counts in
+      refuses-first (testAt wrong order) 0 (length order) r (length (f .before))
+      (record {
+        from-first = omega arith;
+        before-end = omega arith;
+        refuses = ap (λ (s : Refusal). refuseIf (wrong s) s) this ∙ ap (λ (b : Bool). refuseIf b r) (f .is-wrong) ∙ refuses-true r;
+        none-before =
+            λ i low h.
+            refuses-if _ _ .1
+            (ap wrong (ap (λ (o : List Refusal). getD o i Counts) (f .stands) ∙ List·getD-append (f .before) (r ∷ f .after) Counts i h ∙ in-range (f .before) i Counts r h) ∙ f .none-before i h);
+      })

@@ -1,9 +1,9 @@
 -- Windows that follow one another. A window ends before any later one starts, by induction on the later one; what else is
 -- said here is arithmetic on that.
 -- Assumes nothing.
-use mathlib.Core.Bool.{true, and-eq-true-iff}
+use mathlib.Core.Bool.{true, cond, _&&_, and-eq-true-iff}
 use mathlib.Mathlib.Data.Bool.Basic.{eq-false-of-not-eq-true}
-use mathlib.Core.Path.{_≡_, refl, sym}
+use mathlib.Core.Path.{_≡_, refl, sym, ap, _∙_}
 use Prim.Native.Nat.{ℕ, zero, suc, _+_, _≤_, _<_}
 use native.Mathlib.Decide.{decLt, ℕ-discrete}
 use native.Mathlib.Omega.{arith}
@@ -125,3 +125,28 @@ module _ {n : ℕ} {offset budget : ℕ → ℕ} {frameLength : ℕ} (f : Follow
   next-holds i t k last =
       let p = f .budgets-are-positive (nextWindow n i) (next-is-window i k) in
       rw (next-starts i t k last) (record { started = omega arith; not-ended = omega arith })
+
+-- what stands past the last window does not matter
+pub follow-same : {n : ℕ} {offset budget offset′ budget′ : ℕ → ℕ} {frameLength : ℕ} → ((i : ℕ) → i < n → offset i ≡ offset′ i)
+    → ((i : ℕ) → i < n → budget i ≡ budget′ i) → Follow n offset budget frameLength → Follow n offset′ budget′ frameLength
+follow-same same-offset same-budget f =
+    record {
+      one-at-least = f .one-at-least;
+      first-starts-at-zero = omega (arith, same-offset 0 (f .one-at-least), f .first-starts-at-zero);
+      budgets-are-positive = λ i h. omega (arith, same-budget i h, f .budgets-are-positive i h);
+      starts-where-one-before-ends =
+          λ i h. omega (arith, same-offset (suc i) h, same-offset i (omega arith), same-budget i (omega arith), f .starts-where-one-before-ends i h);
+      last-end-is-frame-length =
+          λ i h. omega (arith, same-offset i (omega arith), same-budget i (omega arith), f .last-end-is-frame-length i h);
+    }
+
+pub window-at-same : (n : ℕ) (offset budget offset′ budget′ : ℕ → ℕ) (t : ℕ) → ((i : ℕ) → i < n → offset i ≡ offset′ i)
+    → ((i : ℕ) → i < n → budget i ≡ budget′ i) → windowAt n offset budget t ≡ windowAt n offset′ budget′ t
+unfolding windowAt holdsb
+window-at-same zero offset budget offset′ budget′ t same-offset same-budget = refl
+window-at-same (suc n) offset budget offset′ budget′ t same-offset same-budget =
+    let start = same-offset n (omega arith) in
+    let lasts = same-budget n (omega arith) in
+    (λ k. cond (leb (start k) t && ltb t (start k + lasts k)) n (windowAt n offset budget t))
+    ∙ ap (cond (holdsb offset′ budget′ n t) n)
+    (window-at-same n offset budget offset′ budget′ t (λ i h. same-offset i (omega arith)) (λ i h. same-budget i (omega arith)))

@@ -1,6 +1,8 @@
 -- `host_code` meets its contract: at each `return` the case is known, and the table's row computes.
 -- Assumes nothing.
+use mathlib.Core.Path.{ap, sym}
 use borrow.Author.Needs.{needs}
+use Rattle.refusal.specs.Table.{hostCodeOf}
 use Rattle.refusal.proofs.host_code.Statement.{statement}
 use Rattle.refusal.proofs.host_code.Tie as tie
 
@@ -56,55 +58,55 @@ enum-told-17 : tie.Need-enum-told-17
 enum-told-17 c = search needs
 
 returns : tie.Need-returns
-returns c = cc
+returns c = ap hostCodeOf (sym (c .enum-told .given .1))
 
 returns-2 : tie.Need-returns-2
-returns-2 c = cc
+returns-2 c = ap hostCodeOf (sym (c .enum-told2 .given .1))
 
 returns-3 : tie.Need-returns-3
-returns-3 c = cc
+returns-3 c = ap hostCodeOf (sym (c .enum-told3 .given .1))
 
 returns-4 : tie.Need-returns-4
-returns-4 c = cc
+returns-4 c = ap hostCodeOf (sym (c .enum-told4 .given .1))
 
 returns-5 : tie.Need-returns-5
-returns-5 c = cc
+returns-5 c = ap hostCodeOf (sym (c .enum-told5 .given .1))
 
 returns-6 : tie.Need-returns-6
-returns-6 c = cc
+returns-6 c = ap hostCodeOf (sym (c .enum-told6 .given .1))
 
 returns-7 : tie.Need-returns-7
-returns-7 c = cc
+returns-7 c = ap hostCodeOf (sym (c .enum-told7 .given .1))
 
 returns-8 : tie.Need-returns-8
-returns-8 c = cc
+returns-8 c = ap hostCodeOf (sym (c .enum-told8 .given .1))
 
 returns-9 : tie.Need-returns-9
-returns-9 c = cc
+returns-9 c = ap hostCodeOf (sym (c .enum-told9 .given .1))
 
 returns-10 : tie.Need-returns-10
-returns-10 c = cc
+returns-10 c = ap hostCodeOf (sym (c .enum-told10 .given .1))
 
 returns-11 : tie.Need-returns-11
-returns-11 c = cc
+returns-11 c = ap hostCodeOf (sym (c .enum-told11 .given .1))
 
 returns-12 : tie.Need-returns-12
-returns-12 c = cc
+returns-12 c = ap hostCodeOf (sym (c .enum-told12 .given .1))
 
 returns-13 : tie.Need-returns-13
-returns-13 c = cc
+returns-13 c = ap hostCodeOf (sym (c .enum-told13 .given .1))
 
 returns-14 : tie.Need-returns-14
-returns-14 c = cc
+returns-14 c = ap hostCodeOf (sym (c .enum-told14 .given .1))
 
 returns-15 : tie.Need-returns-15
-returns-15 c = cc
+returns-15 c = ap hostCodeOf (sym (c .enum-told15 .given .1))
 
 returns-16 : tie.Need-returns-16
-returns-16 c = cc
+returns-16 c = ap hostCodeOf (sym (c .enum-told16 .given .1))
 
 returns-17 : tie.Need-returns-17
-returns-17 c = cc
+returns-17 c = ap hostCodeOf (sym (c .enum-told17 .given .1))
 
 pub host-code-spec : {M : Type 1} → statement M
 host-code-spec =

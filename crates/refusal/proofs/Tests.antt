@@ -1,0 +1,36 @@
+-- What a test that finds no fault says of the numbers it was made on.
+-- Assumes nothing.
+use mathlib.Core.Bool.{Bool, true, false, not, _||_, true≢false, false≢true}
+use mathlib.Core.Logic.{_↔_}
+use mathlib.Core.Path.{_≡_, refl, ap}
+use Prim.Native.Nat.{ℕ, _≤_, _<_}
+use native.Mathlib.Omega.{arith}
+use borrow.Author.Tests.{eq-eqb, ne-eqb, lt-ltb, le-ltb, eqb-true, eqb-false, ltb-true, ltb-false, not-false}
+use lib.Dec.{eqb, ltb}
+
+pub equal : (a b : ℕ) → (not (eqb a b) ≡ false) ↔ (a ≡ b)
+equal a b = (λ e. eqb-true a b (not-false (eqb a b) e), λ e. ap not (eq-eqb a b e))
+
+pub differs : (a b : ℕ) → (eqb a b ≡ false) ↔ (a ≡ b → ⊥)
+differs a b = (eqb-false a b, ne-eqb a b)
+
+pub positive : (a : ℕ) → (eqb a 0 ≡ false) ↔ (0 < a)
+positive a = (λ e. let no-way = eqb-false a 0 e in omega arith, λ h. ne-eqb a 0 (λ e. omega arith))
+
+pub at-most : (a b : ℕ) → (ltb a b ≡ false) ↔ (b ≤ a)
+at-most a b = (ltb-false a b, le-ltb a b)
+
+pub neither : (a b : Bool) → (a || b ≡ false) ↔ ((a ≡ false) × (b ≡ false))
+neither true b = (λ e. (e, cc), λ p. p .0)
+neither false b = (λ e. (refl, e), λ p. p .1)
+
+-- and what one that finds a fault says
+pub found : {P : Type 0} (b : Bool) → (b ≡ false) ↔ P → (b ≡ true) ↔ (P → ⊥)
+found true none = (λ e p. true≢false (none .1 p), λ n. refl)
+found false none = (λ e. absurd (false≢true e), λ n. absurd (n (none .0 refl)))
+
+pub same : (a b : ℕ) → (eqb a b ≡ true) ↔ (a ≡ b)
+same a b = (eqb-true a b, eq-eqb a b)
+
+pub above : (a b : ℕ) → (ltb a b ≡ true) ↔ (a < b)
+above a b = (ltb-true a b, lt-ltb a b)
