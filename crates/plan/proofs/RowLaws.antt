@@ -1,0 +1,68 @@
+-- The rows of one partition: how their number grows, row by row.
+-- Assumes nothing.
+use mathlib.Core.Bool.{Bool, true, false, cond}
+use mathlib.Core.List.{List, [], _∷_}
+use mathlib.Core.Path.{_≡_, refl, ap, _∙_}
+use Prim.Native.Nat.{ℕ, zero, suc, _+_, _≤_}
+use native.Mathlib.Nat.{add-zero}
+use native.Mathlib.Decide.{ℕ-discrete}
+use native.Mathlib.Omega.{arith}
+use borrow.Author.Tests.{eq-eqb, ne-eqb}
+use lib.Dec.{eqb}
+use lib.ListN.{length, length-append}
+use Rattle.refusal.specs.declared.Refusal.{Refusal}
+use Rattle.refusal.specs.declared.Refusal.the-variants.{NinthRow}
+use Rattle.refusal.specs.declared.Verdict.the-variants.{Accepted, Refused}
+use Rattle.refusal.specs.First.{refuseIf, orElse}
+use Rattle.plan.specs.declared.Row.{Row}
+use Rattle.plan.specs.Plan.{maxRowsEach, nthRow, rowsOf}
+use Rattle.plan.specs.Faults.{clashesBefore}
+use Rattle.plan.specs.Parts.{oneIfOwn, rowFault, rowTest}
+
+one-or-none : (b : Bool) (r : Row) → length (cond b (r ∷ []) []) ≡ cond b 1 0
+one-or-none true r = refl
+one-or-none false r = refl
+
+one-at-most : (b : Bool) → cond b 1 0 ≤ 1
+one-at-most true = omega arith
+one-at-most false = omega arith
+
+module _ (rows : List ℕ) (q : ℕ) where
+  pub count-step : (n : ℕ) → length (rowsOf rows q (suc n)) ≡ length (rowsOf rows q n) + oneIfOwn (nthRow rows n) q
+  unfolding rowsOf
+  count-step n = simp (length-append, one-or-none)
+
+  pub count-le : (n : ℕ) → length (rowsOf rows q n) ≤ n
+  unfolding rowsOf
+  count-le zero = omega arith
+  count-le (suc n) = omega (arith, count-step n, count-le n, one-at-most (eqb (nthRow rows n .partition .0) q))
+
+  pub count-mono : (m n : ℕ) → m ≤ n → length (rowsOf rows q m) ≤ length (rowsOf rows q n)
+  count-mono m zero h = let same : m ≡ 0 = omega arith in rw same (omega arith)
+  count-mono m (suc n) h =
+      elim (ℕ-discrete m (suc n)) [
+        | yes same ↦ rw same (omega arith)
+        | no below ↦ omega (arith, count-step n, count-mono m n (omega arith))
+      ]
+
+  pub count-own : (n : ℕ) → nthRow rows n .partition .0 ≡ q → length (rowsOf rows q (suc n)) ≡ length (rowsOf rows q n) + 1
+  count-own n e = count-step n ∙ ap (λ (b : Bool). length (rowsOf rows q n) + cond b 1 0) (eq-eqb _ _ e)
+
+  pub count-other : (n : ℕ) → (nthRow rows n .partition .0 ≡ q → ⊥) → length (rowsOf rows q (suc n)) ≡ length (rowsOf rows q n)
+  count-other n e = count-step n ∙ ap (λ (b : Bool). length (rowsOf rows q n) + cond b 1 0) (ne-eqb _ _ e) ∙ add-zero (length (rowsOf rows q n))
+
+-- the tests of row i, one after the other
+module _ (rows : List ℕ) (i : ℕ) where
+  pub row-refused : (r : Refusal) → rowFault i (nthRow rows i) ≡ Refused r → rowTest rows i ≡ Refused r
+  unfolding rowTest orElse
+  row-refused r e = rw e
+
+  pub row-is-ninth : rowFault i (nthRow rows i) ≡ Accepted → length (rowsOf rows (nthRow rows i .partition .0) i) ≡ maxRowsEach
+      → rowTest rows i ≡ Refused (NinthRow i)
+  unfolding rowTest orElse refuseIf
+  row-is-ninth e n = rw (e, eq-eqb _ _ n)
+
+  pub row-may-clash : rowFault i (nthRow rows i) ≡ Accepted → (length (rowsOf rows (nthRow rows i .partition .0) i) ≡ maxRowsEach → ⊥)
+      → rowTest rows i ≡ clashesBefore rows i
+  unfolding rowTest orElse refuseIf
+  row-may-clash e n = rw (e, ne-eqb _ _ n)

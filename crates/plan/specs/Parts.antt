@@ -1,0 +1,40 @@
+-- What the private functions of the check compute: the same tests, one window, one row or two rows at a time. Nothing here has to
+-- be believed: proofs/CheckLaws.antt shows that together they are `verdictOf`.
+use mathlib.Core.Bool.{cond}
+use mathlib.Core.List.{List}
+use Prim.Native.Nat.{ℕ, _<_}
+use lib.Dec.{eqb}
+use Rattle.refusal.specs.declared.Refusal.the-variants.{ZeroBudget, WrongStart, UnknownOwner, UnknownPartition, BadSize, BadBase, BadAccess, NinthRow}
+use Rattle.refusal.specs.declared.Verdict.{Verdict}
+use Rattle.refusal.specs.First.{refuseIf, orElse}
+use Rattle.timeline.specs.Windows.{Follow}
+use Rattle.plan.specs.declared.Window.{Window}
+use Rattle.plan.specs.declared.Row.{Row}
+use Rattle.plan.specs.Plan.{nthWindow, offsetIn, budgetIn, nthRow, startOf}
+use Rattle.plan.specs.Faults.{zeroBudget, wrongStart, unknownOwner, unknownPartition, badSize, badBase, badAccess, ninthRow, clashesBefore}
+
+unfoldable pub windowFault : ℕ → ℕ → Window → Verdict
+windowFault i start w =
+    orElse (refuseIf (zeroBudget w) (ZeroBudget i)) (orElse (refuseIf (wrongStart start w) (WrongStart i)) (refuseIf (unknownOwner w) (UnknownOwner i)))
+
+unfoldable pub windowTest : List ℕ → ℕ → Verdict
+windowTest windows i = windowFault i (startOf windows i) (nthWindow windows i)
+
+-- `count` windows follow one another, and tick t is before their end
+pub record InFrame (windows : List ℕ) (count t : ℕ) : Type 0 where
+  pub frameLength : ℕ
+  pub follow : Follow count (offsetIn windows) (budgetIn windows) frameLength
+  pub before-end : t < frameLength
+
+-- what a row adds to the count of a partition's rows
+abbrev pub oneIfOwn : Row → ℕ → ℕ
+oneIfOwn r q = cond (eqb (r .partition .0) q) 1 0
+
+unfoldable pub rowFault : ℕ → Row → Verdict
+rowFault i r =
+    orElse (refuseIf (unknownPartition r) (UnknownPartition i))
+    (orElse (refuseIf (badSize r) (BadSize i)) (orElse (refuseIf (badBase r) (BadBase i)) (refuseIf (badAccess r) (BadAccess i))))
+
+unfoldable pub rowTest : List ℕ → ℕ → Verdict
+rowTest rows i =
+    orElse (rowFault i (nthRow rows i)) (orElse (refuseIf (ninthRow rows i) (NinthRow i)) (clashesBefore rows i))

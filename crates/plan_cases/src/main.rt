@@ -1,0 +1,191 @@
+// Document 01's cases on plans, one to a line, with some neighbours: the verdict's number and place, 0 0 where accepted. A line on a
+// tick has the window too.
+use plan::Frame;
+use refusal::Verdict;
+
+const OUT: i32 = 1;
+
+const FRAME_A: [u32; 12] = [0, 0, 10, 1, 10, 20, 0, 30, 5, 2, 35, 15];
+
+fn put(n: u32) {
+    io::write_all(OUT, b" ");
+    io::print_decimal(OUT, n as u64);
+}
+
+fn put_verdict(verdict: Verdict) {
+    let Verdict::Refused(r) = verdict else {
+        put(0);
+        put(0);
+        return;
+    };
+    put(refusal::number(r));
+    put(refusal::place(r));
+}
+
+fn show(name: &[u8], length: u32, windows: &[u32], rows: &[u32]) {
+    let frame = Frame { length };
+    io::write_all(OUT, name);
+    put_verdict(frame.check(windows, rows));
+    io::write_all(OUT, b"\n");
+}
+
+fn show_tick(name: &[u8], windows: &[u32], t: u32) {
+    let frame = Frame { length: 50 };
+    let located = frame.lookup(windows, &[], t);
+    let verdict = located.verdict;
+    io::write_all(OUT, name);
+    put_verdict(verdict);
+    put(located.window.0);
+    io::write_all(OUT, b"\n");
+}
+
+// Rows beside the windows of frame A, which are owned by partitions 0, 1 and 2.
+fn show_rows(name: &[u8], rows: &[u32]) {
+    show(name, 50, &FRAME_A, rows);
+}
+
+// 65 windows of one tick each, of sixteen owners.
+fn one_tick_windows() -> [u32; 195] {
+    let mut windows = [0u32; 195];
+    let mut i: usize = 0;
+    while i < 65 {
+        let at = i * 3;
+        windows[at] = (i % 16) as u32;
+        windows[at + 1] = i as u32;
+        windows[at + 2] = 1;
+        i += 1;
+    }
+    windows
+}
+
+// 129 rows, eight a partition, side by side.
+fn side_by_side() -> [u32; 516] {
+    let mut rows = [0u32; 516];
+    let mut i: usize = 0;
+    while i < 129 {
+        let at = i * 4;
+        rows[at] = (i / 8) as u32;
+        rows[at + 1] = (i * 32) as u32;
+        rows[at + 2] = 32;
+        rows[at + 3] = 1;
+        i += 1;
+    }
+    rows
+}
+
+// The first n numbers of a list of windows, the first m of a list of rows.
+fn show_part(name: &[u8], length: u32, windows: &[u32], n: usize, rows: &[u32], m: usize) {
+    if n <= windows.len() {
+        if m <= rows.len() {
+            show(name, length, &windows[..n], &rows[..m]);
+        }
+    }
+}
+
+fn window_counts() {
+    let windows = one_tick_windows();
+    show_part(b"no window:", 0, &windows, 0, &[], 0);
+    show_part(b"one window:", 1, &windows, 3, &[], 0);
+    show_part(b"64 windows:", 64, &windows, 192, &[], 0);
+    show_part(b"65 windows:", 65, &windows, 195, &[], 0);
+    show_part(b"a window without its budget:", 1, &windows, 5, &[], 0);
+}
+
+fn row_counts() {
+    let windows = one_tick_windows();
+    let rows = side_by_side();
+    show_part(b"128 rows:", 64, &windows, 192, &rows, 512);
+    show_part(b"129 rows:", 64, &windows, 192, &rows, 516);
+    show_part(b"a row without its access:", 50, &FRAME_A, 12, &rows, 7);
+    show_part(b"eight rows of partition 0:", 50, &FRAME_A, 12, &rows, 32);
+    let mut nine = rows;
+    nine[32] = 0;
+    show_part(b"nine rows of partition 0:", 50, &FRAME_A, 12, &nine, 36);
+}
+
+fn windows() {
+    show(b"A:", 50, &FRAME_A, &[]);
+    show(b"offset 5 and budget 0:", 50, &[0, 5, 0], &[]);
+    show(
+        b"budget 0 in window 2:",
+        50,
+        &[0, 0, 10, 1, 10, 20, 0, 30, 0, 2, 35, 15],
+        &[],
+    );
+    show(b"a gap before window 1:", 50, &[0, 0, 10, 16, 11, 39], &[]);
+    show(b"owner 16:", 50, &[0, 0, 10, 16, 10, 40], &[]);
+    show(b"an end below the length:", 51, &FRAME_A, &[]);
+    show(
+        b"a sum of 2^32:",
+        0,
+        &[0, 0, 1, 1, 1, 1, 0, 2, 4294967293, 2, 4294967295, 1],
+        &[],
+    );
+    show(
+        b"the longest:",
+        4294967295,
+        &[0, 0, 1, 1, 1, 1, 0, 2, 4294967292, 2, 4294967294, 1],
+        &[],
+    );
+}
+
+fn rows() {
+    show_rows(b"partition 16:", &[16, 0x20000000, 1024, 1]);
+    show_rows(b"size 0:", &[0, 0x20000000, 0, 1]);
+    show_rows(b"size 16:", &[0, 0x20000000, 16, 1]);
+    show_rows(b"size 96:", &[0, 0x20000000, 96, 1]);
+    show_rows(b"base 0x20000010, size 32:", &[0, 0x20000010, 32, 1]);
+    show_rows(b"base 0xFFFFFFE0, size 32:", &[0, 0xFFFFFFE0, 32, 1]);
+    show_rows(b"access 3:", &[0, 0x20000000, 1024, 3]);
+    show_rows(b"base and access wrong:", &[0, 0x20000010, 32, 3]);
+    show_rows(
+        b"the half of the addresses:",
+        &[0, 0x80000000, 0x80000000, 1],
+    );
+}
+
+fn clashes() {
+    show_rows(
+        b"base 0x200003E0:",
+        &[1, 0x20000000, 1024, 1, 2, 0x200003E0, 32, 0],
+    );
+    show_rows(
+        b"base 0x20000400:",
+        &[1, 0x20000000, 1024, 1, 2, 0x20000400, 32, 0],
+    );
+    show_rows(
+        b"the writable row second:",
+        &[1, 0x20000000, 1024, 2, 2, 0x200003E0, 32, 1],
+    );
+    show_rows(
+        b"readers of two partitions:",
+        &[1, 0x20000000, 1024, 0, 2, 0x200003E0, 32, 2],
+    );
+    show_rows(
+        b"readers of one partition:",
+        &[1, 0x20000000, 1024, 0, 1, 0x200003E0, 32, 0],
+    );
+    show_rows(
+        b"a clash, then a bad size:",
+        &[1, 0, 32, 1, 2, 0, 32, 0, 2, 64, 16, 0],
+    );
+}
+
+fn ticks() {
+    show_tick(b"tick 0:", &FRAME_A, 0);
+    show_tick(b"tick 9:", &FRAME_A, 9);
+    show_tick(b"tick 10:", &FRAME_A, 10);
+    show_tick(b"tick 49:", &FRAME_A, 49);
+    show_tick(b"tick 50:", &FRAME_A, 50);
+    show_tick(b"tick 4294967295:", &FRAME_A, 4294967295);
+    show_tick(b"tick 50 of a plan refused:", &[0, 0, 10, 1, 10, 39], 50);
+}
+
+fn main() {
+    window_counts();
+    row_counts();
+    windows();
+    rows();
+    clashes();
+    ticks();
+}
