@@ -1,0 +1,69 @@
+//! The check and the lookup as one would write them in Rust with nothing to prove: chunks, an early return, a counter a partition.
+
+pub struct Refused(pub u32, pub u32);
+
+fn overlap(a: &[u32], b: &[u32]) -> bool {
+    let end = |r: &[u32]| u64::from(r[1]) + u64::from(r[2]);
+    u64::from(a[1]) < end(b) && u64::from(b[1]) < end(a)
+}
+
+fn row(rows: &[u32], i: usize, counts: &mut [u32; 16]) -> Result<(), Refused> {
+    let r = &rows[i * 4..i * 4 + 4];
+    let at = i as u32;
+    if r[0] > 15 {
+        return Err(Refused(6, at));
+    }
+    if r[2] < 32 || !r[2].is_power_of_two() {
+        return Err(Refused(7, at));
+    }
+    if r[1] & (r[2] - 1) != 0 {
+        return Err(Refused(8, at));
+    }
+    if r[3] > 2 {
+        return Err(Refused(9, at));
+    }
+    counts[r[0] as usize] += 1;
+    if counts[r[0] as usize] > 8 {
+        return Err(Refused(10, at));
+    }
+    for o in rows[..i * 4].chunks_exact(4) {
+        if overlap(o, r) && (o[0] == r[0] || o[3] == 1 || r[3] == 1) {
+            return Err(Refused(11, at));
+        }
+    }
+    Ok(())
+}
+
+pub fn check(length: u32, windows: &[u32], rows: &[u32]) -> Result<(), Refused> {
+    let count = windows.len() / 3;
+    if windows.len() % 3 != 0 || rows.len() % 4 != 0 || count == 0 || count > 64 || rows.len() / 4 > 128 {
+        return Err(Refused(1, 0));
+    }
+    let mut end = 0u64;
+    for (i, w) in windows.chunks_exact(3).enumerate() {
+        if w[2] == 0 {
+            return Err(Refused(2, i as u32));
+        }
+        if u64::from(w[1]) != end {
+            return Err(Refused(3, i as u32));
+        }
+        if w[0] > 15 {
+            return Err(Refused(4, i as u32));
+        }
+        end = u64::from(w[1]) + u64::from(w[2]);
+    }
+    if end != u64::from(length) {
+        return Err(Refused(5, count as u32 - 1));
+    }
+    let mut counts = [0; 16];
+    (0..rows.len() / 4).try_for_each(|i| row(rows, i, &mut counts))
+}
+
+pub fn lookup(length: u32, windows: &[u32], rows: &[u32], t: u32) -> Result<u32, Refused> {
+    check(length, windows, rows)?;
+    if t >= length {
+        return Err(Refused(12, 0));
+    }
+    let found = windows.chunks_exact(3).position(|w| u64::from(t) < u64::from(w[1]) + u64::from(w[2]));
+    Ok(found.unwrap_or(0) as u32)
+}
