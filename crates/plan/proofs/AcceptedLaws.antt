@@ -1,7 +1,7 @@
 -- The verdict is 'accepted' exactly if every sentence of document 01's "Accepted exactly if" holds. Each test is turned into what it
 -- says of the numbers; the folds into what they say of every window and every row.
 -- Assumes nothing.
-use mathlib.Core.Bool.{Bool, true, false, not, _||_, false≢true, and-eq-true-iff, or-true}
+use mathlib.Core.Bool.{true, not, _||_, false≢true, and-eq-true-iff, or-true}
 use mathlib.Core.List.{List}
 use mathlib.Core.Logic.{_↔_, _⊎_, inl, inr, Iff·rfl}
 use mathlib.Core.Path.{_≡_, refl, sym, ap, _∙_}
@@ -19,10 +19,10 @@ use Rattle.refusal.specs.declared.Verdict.{Verdict}
 use Rattle.refusal.specs.declared.Verdict.the-variants.{Accepted, Refused}
 use Rattle.refusal.specs.First.{refused, firstFault}
 use Rattle.refusal.proofs.First.{refuses-if, fault-found, not-refused, both-accept, each-accepts, all-accept, first-refuses}
-use Rattle.refusal.proofs.Tests.{equal, differs, positive, at-most, neither}
+use Rattle.refusal.proofs.Tests.{equal, differs, positive, at-most, neither, either}
 use Rattle.plan.specs.declared.Window.{Window}
 use Rattle.plan.specs.declared.Row.{Row}
-use Rattle.plan.specs.Plan.{Plan, maxPartition, maxRowsEach, endOf, frameLength, windowCount, rowCount, windowOf, rowOf, offsetOf, budgetOf, ownerOf, startOf, nthRow, rowsOf}
+use Rattle.plan.specs.Plan.{Plan, maxPartition, maxRowsEach, minSize, writable, maxAccess, endOf, frameLength, windowCount, rowCount, windowOf, rowOf, offsetOf, budgetOf, ownerOf, startOf, nthRow, rowsOf}
 use Rattle.plan.specs.Faults.{wrongCounts, sharesAddress, clashes, clashTest, clashesBefore, verdictOf}
 use Rattle.plan.specs.Parts.{windowFault, windowTest, rowFault, rowTest}
 use Rattle.plan.specs.Accepted.{MultipleOf, ShareAddress, RowsClash, CountsInRange}
@@ -56,7 +56,7 @@ window-accepted i start w = simp (both-accept, refuses-if, equal, positive, at-m
 -- 6 to 9
 row-accepted : (i : ℕ) (r : Row)
     → (rowFault i r ≡ Accepted)
-    ↔ ((r .partition .0 ≤ maxPartition) × (((32 ≤ r .size) × (ones (r .size) ≡ 1)) × ((r .base % r .size ≡ 0) × (r .access ≤ 2))))
+    ↔ ((r .partition .0 ≤ maxPartition) × (((minSize ≤ r .size) × (ones (r .size) ≡ 1)) × ((r .base % r .size ≡ 0) × (r .access ≤ maxAccess))))
 unfolding rowFault
 row-accepted i r = simp (both-accept, refuses-if, neither, equal, at-most) Iff·rfl
 
@@ -67,10 +67,6 @@ multiple-of size base = (
 )
 
 -- 11: the test of two rows says whether they share an address, the greater base being such a one
-either : (a b : Bool) → a || b ≡ true → (a ≡ true) ⊎ (b ≡ true)
-either true b e = inl refl
-either false b e = inr e
-
 shared-true : (a b : Row) → ShareAddress a b → sharesAddress a b ≡ true
 unfolding sharesAddress
 shared-true a b (x, in-a, in-b) =
@@ -96,27 +92,27 @@ pub clash-true : (a b : Row) → RowsClash a b → clashes a b ≡ true
 unfolding clashes
 clash-true a b c = simp and-eq-true-iff (shared-true a b (c .share), one (c .belong-or-write))
   where
-    one : (a .partition .0 ≡ b .partition .0) ⊎ ((a .access ≡ 1) ⊎ (b .access ≡ 1))
-        → eqb (a .partition .0) (b .partition .0) || eqb (a .access) 1 || eqb (b .access) 1 ≡ true
+    one : (a .partition .0 ≡ b .partition .0) ⊎ ((a .access ≡ writable) ⊎ (b .access ≡ writable))
+        → eqb (a .partition .0) (b .partition .0) || eqb (a .access) writable || eqb (b .access) writable ≡ true
     one (inl same) = simp (eq-eqb (a .partition .0) (b .partition .0) same)
-    one (inr (inl a-writes)) = simp (eq-eqb (a .access) 1 a-writes, or-true)
-    one (inr (inr b-writes)) = simp (eq-eqb (b .access) 1 b-writes, or-true)
+    one (inr (inl a-writes)) = simp (eq-eqb (a .access) writable a-writes, or-true)
+    one (inr (inr b-writes)) = simp (eq-eqb (b .access) writable b-writes, or-true)
 
 pub true-clash : (a b : Row) → clashes a b ≡ true → RowsClash a b
 unfolding clashes
 true-clash a b e =
     let (shared, rest) = simp and-eq-true-iff at e in
-    record { share = true-shared a b shared; belong-or-write = one (either (eqb (a .partition .0) (b .partition .0) || eqb (a .access) 1) (eqb (b .access) 1) rest) }
+    record { share = true-shared a b shared; belong-or-write = one (either (eqb (a .partition .0) (b .partition .0) || eqb (a .access) writable) (eqb (b .access) writable) rest) }
   where
-    two : (eqb (a .partition .0) (b .partition .0) ≡ true) ⊎ (eqb (a .access) 1 ≡ true)
-        → (a .partition .0 ≡ b .partition .0) ⊎ ((a .access ≡ 1) ⊎ (b .access ≡ 1))
+    two : (eqb (a .partition .0) (b .partition .0) ≡ true) ⊎ (eqb (a .access) writable ≡ true)
+        → (a .partition .0 ≡ b .partition .0) ⊎ ((a .access ≡ writable) ⊎ (b .access ≡ writable))
     two (inl same) = inl (eqb-true (a .partition .0) (b .partition .0) same)
-    two (inr a-writes) = inr (inl (eqb-true (a .access) 1 a-writes))
+    two (inr a-writes) = inr (inl (eqb-true (a .access) writable a-writes))
 
-    one : (eqb (a .partition .0) (b .partition .0) || eqb (a .access) 1 ≡ true) ⊎ (eqb (b .access) 1 ≡ true)
-        → (a .partition .0 ≡ b .partition .0) ⊎ ((a .access ≡ 1) ⊎ (b .access ≡ 1))
-    one (inl first) = two (either (eqb (a .partition .0) (b .partition .0)) (eqb (a .access) 1) first)
-    one (inr b-writes) = inr (inr (eqb-true (b .access) 1 b-writes))
+    one : (eqb (a .partition .0) (b .partition .0) || eqb (a .access) writable ≡ true) ⊎ (eqb (b .access) writable ≡ true)
+        → (a .partition .0 ≡ b .partition .0) ⊎ ((a .access ≡ writable) ⊎ (b .access ≡ writable))
+    one (inl first) = two (either (eqb (a .partition .0) (b .partition .0)) (eqb (a .access) writable) first)
+    one (inr b-writes) = inr (inr (eqb-true (b .access) writable b-writes))
 
 -- of two rows it does not matter which is first
 turned : {a b : Row} → RowsClash a b → RowsClash b a
@@ -205,7 +201,7 @@ module _ (p : Plan) where
   RowRight : ℕ → Type 0
   RowRight i =
       ((rowOf p i .partition .0 ≤ maxPartition)
-      × (((32 ≤ rowOf p i .size) × (ones (rowOf p i .size) ≡ 1)) × ((rowOf p i .base % rowOf p i .size ≡ 0) × (rowOf p i .access ≤ 2))))
+      × (((minSize ≤ rowOf p i .size) × (ones (rowOf p i .size) ≡ 1)) × ((rowOf p i .base % rowOf p i .size ≡ 0) × (rowOf p i .access ≤ maxAccess))))
       × ((length (rowsOf (p .rows) (rowOf p i .partition .0) i) ≡ maxRowsEach → ⊥)
       × ((j : ℕ) → j < i → RowsClash (rowOf p j) (rowOf p i) → ⊥))
 

@@ -57,6 +57,7 @@ sharesAddress a b = not (eqb (a .size) 0) && not (eqb (b .size) 0) && ltb (a .ba
 unfoldable pub clashes : Row → Row → Bool
 clashes a b = sharesAddress a b && (eqb (a .partition .0) (b .partition .0) || eqb (a .access) writable || eqb (b .access) writable)
 
+-- row i against an earlier row j; then against each row before it, from row 0 on
 unfoldable pub clashTest : List ℕ → ℕ → ℕ → Verdict
 clashTest rows i j = refuseIf (clashes (nthRow rows j) (nthRow rows i)) (Clash i)
 

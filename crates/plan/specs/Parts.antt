@@ -1,5 +1,6 @@
 -- What the private functions of the check compute: the same tests, one window, one row or two rows at a time. Nothing here has to
--- be believed: proofs/CheckLaws.antt shows that together they are `verdictOf`.
+-- be believed: proofs/CheckLaws.antt shows that together they are `verdictOf`. A `..Fault` is of values, a `..Test` of the record at a place
+-- of a list.
 use mathlib.Core.Bool.{cond}
 use mathlib.Core.List.{List}
 use Prim.Native.Nat.{ℕ, _<_}

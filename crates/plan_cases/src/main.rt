@@ -1,5 +1,6 @@
 // Document 01's cases on plans, one to a line, with some neighbours: the verdict's number and place, 0 0 where accepted. A line on a
 // tick has the window too.
+ghost use Prim.Native.Nat.{_≤_, _<_};
 use plan::Frame;
 use refusal::Verdict;
 
@@ -44,33 +45,23 @@ fn show_rows(name: &[u8], rows: &[u32]) {
     show(name, 50, &FRAME_A, rows);
 }
 
-// 65 windows of one tick each, of sixteen owners.
-fn one_tick_windows() -> [u32; 195] {
-    let mut windows = [0u32; 195];
-    let mut i: usize = 0;
-    while i < 65 {
-        let at = i * 3;
-        windows[at] = (i % 16) as u32;
-        windows[at + 1] = i as u32;
-        windows[at + 2] = 1;
-        i += 1;
-    }
-    windows
-}
-
-// 129 rows, eight a partition, side by side.
-fn side_by_side() -> [u32; 516] {
-    let mut rows = [0u32; 516];
+// 129 records of `width` numbers that start i % partitions, i * 32, 32, 1: windows of 32 ticks if they are three wide, writable rows of
+// 32 bytes if four.
+fn records(width: usize, partitions: usize) -> [u32; 516]
+    requires { ⌜ (width ≤ 4) × (0 < partitions) ⌝ }
+{
+    let mut list = [0u32; 516];
+    let mut at: usize = 0;
     let mut i: usize = 0;
     while i < 129 {
-        let at = i * 4;
-        rows[at] = (i / 8) as u32;
-        rows[at + 1] = (i * 32) as u32;
-        rows[at + 2] = 32;
-        rows[at + 3] = 1;
+        list[at] = (i % partitions) as u32;
+        list[at + 1] = (i * 32) as u32;
+        list[at + 2] = 32;
+        list[at + 3] = 1;
+        at += width;
         i += 1;
     }
-    rows
+    list
 }
 
 // The first n numbers of a list of windows, the first m of a list of rows.
@@ -83,24 +74,27 @@ fn show_part(name: &[u8], length: u32, windows: &[u32], n: usize, rows: &[u32], 
 }
 
 fn window_counts() {
-    let windows = one_tick_windows();
+    let windows = records(3, 16);
     show_part(b"no window:", 0, &windows, 0, &[], 0);
-    show_part(b"one window:", 1, &windows, 3, &[], 0);
-    show_part(b"64 windows:", 64, &windows, 192, &[], 0);
-    show_part(b"65 windows:", 65, &windows, 195, &[], 0);
-    show_part(b"a window without its budget:", 1, &windows, 5, &[], 0);
+    show_part(b"one window:", 32, &windows, 3, &[], 0);
+    show_part(b"64 windows:", 2048, &windows, 192, &[], 0);
+    show_part(b"65 windows:", 2080, &windows, 195, &[], 0);
+    show_part(b"a window without its budget:", 32, &windows, 5, &[], 0);
 }
 
+// Sixteen owners, so that each partition has a window.
 fn row_counts() {
-    let windows = one_tick_windows();
-    let rows = side_by_side();
-    show_part(b"128 rows:", 64, &windows, 192, &rows, 512);
-    show_part(b"129 rows:", 64, &windows, 192, &rows, 516);
-    show_part(b"a row without its access:", 50, &FRAME_A, 12, &rows, 7);
+    let windows = records(3, 16);
+    let rows = records(4, 16);
+    show_part(b"128 rows:", 512, &windows, 48, &rows, 512);
+    show_part(b"129 rows:", 512, &windows, 48, &rows, 516);
+    show_part(b"a row without its access:", 512, &windows, 48, &rows, 7);
+}
+
+fn rows_of_one() {
+    let rows = records(4, 1);
     show_part(b"eight rows of partition 0:", 50, &FRAME_A, 12, &rows, 32);
-    let mut nine = rows;
-    nine[32] = 0;
-    show_part(b"nine rows of partition 0:", 50, &FRAME_A, 12, &nine, 36);
+    show_part(b"nine rows of partition 0:", 50, &FRAME_A, 12, &rows, 36);
 }
 
 fn windows() {
@@ -184,6 +178,7 @@ fn ticks() {
 fn main() {
     window_counts();
     row_counts();
+    rows_of_one();
     windows();
     rows();
     clashes();

@@ -1,13 +1,14 @@
--- What a test that finds no fault says of the numbers it was made on.
+-- What a test says of the numbers it was made on.
 -- Assumes nothing.
 use mathlib.Core.Bool.{Bool, true, false, not, _||_, true≢false, false≢true}
-use mathlib.Core.Logic.{_↔_}
+use mathlib.Core.Logic.{_↔_, _⊎_, inl, inr}
 use mathlib.Core.Path.{_≡_, refl, ap}
 use Prim.Native.Nat.{ℕ, _≤_, _<_}
 use native.Mathlib.Omega.{arith}
 use borrow.Author.Tests.{eq-eqb, ne-eqb, lt-ltb, le-ltb, eqb-true, eqb-false, ltb-true, ltb-false, not-false}
 use lib.Dec.{eqb, ltb}
 
+-- one that finds no fault
 pub equal : (a b : ℕ) → (not (eqb a b) ≡ false) ↔ (a ≡ b)
 equal a b = (λ e. eqb-true a b (not-false (eqb a b) e), λ e. ap not (eq-eqb a b e))
 
@@ -24,7 +25,7 @@ pub neither : (a b : Bool) → (a || b ≡ false) ↔ ((a ≡ false) × (b ≡ f
 neither true b = (λ e. (e, cc), λ p. p .0)
 neither false b = (λ e. (refl, e), λ p. p .1)
 
--- and what one that finds a fault says
+-- one that finds a fault
 pub found : {P : Type 0} (b : Bool) → (b ≡ false) ↔ P → (b ≡ true) ↔ (P → ⊥)
 found true none = (λ e p. true≢false (none .1 p), λ n. refl)
 found false none = (λ e. absurd (false≢true e), λ n. absurd (n (none .0 refl)))
@@ -34,3 +35,7 @@ same a b = (eqb-true a b, eq-eqb a b)
 
 pub above : (a b : ℕ) → (ltb a b ≡ true) ↔ (a < b)
 above a b = (ltb-true a b, lt-ltb a b)
+
+pub either : (a b : Bool) → a || b ≡ true → (a ≡ true) ⊎ (b ≡ true)
+either true b e = inl refl
+either false b e = inr e

@@ -40,7 +40,8 @@ unfoldable pub upward : (ℕ → List Refusal) → ℕ → ℕ → List Refusal
 upward at first zero = []
 upward at first (suc left) = at first ++ upward at (suc first) left
 
--- the first refusal of such a list for which there is a reason: the same fold, over the list's places
+-- the first refusal of such a list for which there is a reason: the same fold, over the list's places (`Counts` would stand past the
+-- list's end, where nothing looks)
 unfoldable pub testAt : (Refusal → Bool) → List Refusal → ℕ → Verdict
 testAt wrong order i = refuseIf (wrong (getD order i Counts)) (getD order i Counts)
 
