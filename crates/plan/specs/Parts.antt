@@ -1,16 +1,18 @@
--- What the private functions of the check compute: the same tests, one window, one row or two rows at a time. Nothing here has to
--- be believed: proofs/CheckLaws.antt shows that together they are `verdictOf`. A `..Fault` is of values, a `..Test` of the record at a place
--- of a list.
+-- What the private functions compute: of the check, the same tests, one window, one row or two rows at a time; of a partition's rows, one row
+-- more. Nothing here has to be believed: proofs/CheckLaws.antt shows that together the tests are `verdictOf`, proofs/OwnLaws.antt that the
+-- rows are `rowsOf`. A `..Fault` is of values, a `..Test` of the record at a place of a list.
 use mathlib.Core.Bool.{cond}
 use mathlib.Core.List.{List}
-use Prim.Native.Nat.{ℕ, _<_}
+use Prim.Native.Nat.{ℕ, _+_, _<_}
 use lib.Dec.{eqb}
+use lib.ListN.{set}
 use Rattle.refusal.specs.declared.Refusal.the-variants.{ZeroBudget, WrongStart, UnknownOwner, UnknownPartition, BadSize, BadBase, BadAccess, NinthRow}
 use Rattle.refusal.specs.declared.Verdict.{Verdict}
 use Rattle.refusal.specs.First.{refuseIf, orElse}
 use Rattle.timeline.specs.Windows.{Follow}
 use Rattle.plan.specs.declared.Window.{Window}
 use Rattle.plan.specs.declared.Row.{Row}
+use Rattle.plan.specs.declared.own.OwnRows.{OwnRows}
 use Rattle.plan.specs.Plan.{nthWindow, offsetIn, budgetIn, nthRow, startOf}
 use Rattle.plan.specs.Faults.{zeroBudget, wrongStart, unknownOwner, unknownPartition, badSize, badBase, badAccess, ninthRow, clashesBefore}
 
@@ -39,3 +41,8 @@ rowFault i r =
 unfoldable pub rowTest : List ℕ → ℕ → Verdict
 rowTest rows i =
     orElse (rowFault i (nthRow rows i)) (orElse (refuseIf (ninthRow rows i) (NinthRow i)) (clashesBefore rows i))
+
+-- one row more, if it is the partition's, after those that are there
+unfoldable pub withOwn : OwnRows → Row → ℕ → OwnRows
+withOwn own r q =
+    cond (eqb (r .partition .0) q) (record { rows = set (own .rows) (own .count) r; count = own .count + 1 }) own

@@ -2,7 +2,7 @@
 -- "A plan"). Windows and rows stand in flat lists, record i of width w at i * w; a number past a list's end is taken for 0.
 use mathlib.Core.Bool.{cond}
 use mathlib.Core.List.{List, [], _∷_, _++_}
-use Prim.Native.Nat.{ℕ, zero, suc, _+_, _*_, _/_}
+use Prim.Native.Nat.{ℕ, zero, suc, _+_, _*_, _/_, _^_, _<_}
 use lib.Dec.{eqb}
 use lib.ListN.{length, getD}
 use Rattle.plan.specs.declared.Frame.{Frame}
@@ -16,6 +16,10 @@ pub record Plan : Type 0 where
 
 abbrev pub planOf : Frame → List ℕ → List ℕ → Plan
 planOf frame windows rows = record { frame = frame; windows = windows; rows = rows }
+
+-- what a lent list of u32 holds
+abbrev pub AllU32 : List ℕ → Type 0
+AllU32 list = (i : ℕ) → getD list i 0 < 2 ^ 32
 
 abbrev pub maxWindows : ℕ
 maxWindows = 64
@@ -36,6 +40,9 @@ minSize = 32
 -- access: 0 read, 1 read and write, 2 read and execute
 abbrev pub writable : ℕ
 writable = 1
+
+abbrev pub executable : ℕ
+executable = 2
 
 abbrev pub maxAccess : ℕ
 maxAccess = 2

@@ -2,6 +2,7 @@
 // It is lent: a `Frame` by value, a list of windows with three numbers each, a list of rows with four numbers each.
 mod check;
 pub mod lookup;
+pub mod own;
 mod rows;
 pub mod windows;
 
@@ -47,4 +48,9 @@ pub struct Row {
 
 impl Row {
     pub const NUMBERS: usize = 4;
+
+    // The accesses that permit more than to read.
+    pub const WRITABLE: u32 = 1;
+
+    pub const EXECUTABLE: u32 = 2;
 }

@@ -16,12 +16,10 @@ const MIN_SIZE: u32 = 32;
 
 const MAX_ACCESS: u32 = 2;
 
-const WRITABLE: u32 = 1;
-
 const MAX_ROWS_EACH: u32 = 8;
 
 // Row i of the list.
-fn nth_row(rows: &[u32], i: u32) -> Row
+pub(crate) fn nth_row(rows: &[u32], i: u32) -> Row
     requires { ⌜ i * 4 + 3 < length (now rows) ⌝ }
     ensures { λ r. ⌜ r ≡ nthRow (now (rows .entry)) i ⌝ }
 {
@@ -94,10 +92,10 @@ fn clash_fault(i: u32, a: Row, b: Row) -> Verdict
     if a_partition == b_partition {
         return Verdict::Refused(Refusal::Clash(i));
     }
-    if a_access == WRITABLE {
+    if a_access == Row::WRITABLE {
         return Verdict::Refused(Refusal::Clash(i));
     }
-    if b_access == WRITABLE {
+    if b_access == Row::WRITABLE {
         return Verdict::Refused(Refusal::Clash(i));
     }
     Verdict::Accepted

@@ -1,0 +1,29 @@
+-- The rows of one partition, as they are handed out: eight places, its rows in table order from the front, zeros in the others
+-- (document 01, "A plan": "no partition has over 8 rows").
+use mathlib.Core.List.{List, [], _++_}
+use Prim.Native.Nat.{ℕ, _-_}
+use lib.ListN.{length, replicate}
+use Rattle.refusal.specs.declared.Verdict.{Verdict}
+use Rattle.refusal.specs.declared.Verdict.the-variants.{Accepted, Refused}
+use Rattle.plan.specs.declared.Row.{Row}
+use Rattle.plan.specs.declared.own.OwnRows.{OwnRows}
+use Rattle.plan.specs.declared.own.Owned.{Owned}
+use Rattle.plan.specs.Plan.{Plan, maxRowsEach, rowCount, rowsOf}
+use Rattle.plan.specs.Faults.{verdictOf}
+
+abbrev pub noRow : Row
+noRow = record { partition = record { 0 = 0 }; base = 0; size = 0; access = 0 }
+
+unfoldable pub packed : List Row → OwnRows
+packed own = record { rows = own ++ replicate (maxRowsEach - length own) noRow; count = length own }
+
+-- a refusal hands out no rows
+unfoldable pub owned : Verdict → List Row → Owned
+owned Accepted own = record { own = packed own; verdict = Accepted }
+owned (Refused r) own = record { own = packed []; verdict = Refused r }
+
+abbrev pub ownRows : Plan → ℕ → List Row
+ownRows p q = rowsOf (p .rows) q (rowCount p)
+
+unfoldable pub ownRowsOf : Plan → ℕ → Owned
+ownRowsOf p q = owned (verdictOf p) (ownRows p q)
