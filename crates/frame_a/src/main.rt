@@ -1,6 +1,9 @@
-// Frame A of document 01: the check's verdict, and the window at ticks 9, 10, 49 and 50. Then the same with budget 0 in window 2.
+// Frame A of document 01: the check's verdict, and the window at ticks 9, 10, 49 and 50; the region words of partition 1, for a row of
+// 1024 writable bytes. Then the same frame with budget 0 in window 2.
 use plan::Frame;
+use plan::PartitionNo;
 use refusal::Verdict;
+use region::Pair;
 
 const OUT: i32 = 1;
 
@@ -8,6 +11,9 @@ const OUT: i32 = 1;
 const FRAME_A: [u32; 12] = [0, 0, 10, 1, 10, 20, 0, 30, 5, 2, 35, 15];
 
 const ONE_BUDGET_ZERO: [u32; 12] = [0, 0, 10, 1, 10, 20, 0, 30, 0, 2, 35, 15];
+
+// Partition, base, size and access.
+const ROW: [u32; 4] = [1, 0x20000000, 1024, 1];
 
 fn print_verdict(verdict: Verdict) {
     match verdict {
@@ -43,11 +49,32 @@ fn print_window(t: u32) {
     io::write_all(OUT, b"\n");
 }
 
+fn print_pair(name: &[u8], pair: Pair) {
+    io::write_all(OUT, name);
+    io::print_hex(OUT, pair.first as u64, 8);
+    io::write_all(OUT, b"\t");
+    io::print_hex(OUT, pair.second as u64, 8);
+    io::write_all(OUT, b"\n");
+}
+
+fn print_words() {
+    let frame = Frame { length: 50 };
+    let words = region::words_of(frame, &FRAME_A, &ROW, PartitionNo(1));
+    let verdict = words.verdict;
+    let slots = words.slots;
+    io::write_all(OUT, b"partition 1\t");
+    print_verdict(verdict);
+    io::write_all(OUT, b"\n");
+    print_pair(b"partition 1, slot 0\t", slots[0]);
+    print_pair(b"partition 1, slot 1\t", slots[1]);
+}
+
 fn main() {
     print_check(b"frame A\t", &FRAME_A);
     print_window(9);
     print_window(10);
     print_window(49);
     print_window(50);
+    print_words();
     print_check(b"budget 0 in window 2\t", &ONE_BUDGET_ZERO);
 }

@@ -1,0 +1,70 @@
+-- The eight pairs of an accepted answer, written in their order, leave nothing of what the unit held: each pair names its own slot.
+-- Assumes nothing.
+use mathlib.Core.Bool.{Bool, cond}
+use mathlib.Core.List.{List, [], _∷_, _++_}
+use mathlib.Core.Path.{_≡_, refl, sym, ap, _∙_}
+use Prim.Native.Nat.{ℕ, zero, suc, _≤_, _<_}
+use native.Mathlib.Decide.{decLt, ℕ-discrete}
+use native.Mathlib.Omega.{arith}
+use borrow.Author.Tests.{eq-eqb, ne-eqb}
+use lib.Dec.{eqb}
+use lib.ListN.{length, getD}
+use Rattle.plan.specs.Plan.{Plan, AllU32, maxPartition}
+use Rattle.plan.specs.Own.{noRow, ownRows}
+use Rattle.plan.specs.Accepted as declared
+use Rattle.plan.proofs.AcceptedLaws.{all-accepted}
+use Rattle.region.specs.declared.Pair.{Pair}
+use Rattle.region.specs.declared.Words.{Words}
+use Rattle.region.specs.Slots.{slotCount}
+use Rattle.region.specs.Manual.{Rbar, rbarOf, Mpu, selectedBy, written, programmed, Names}
+use Rattle.region.specs.Words.{freePair, pairAt, upTo, noPair, wordsOf}
+use Rattle.region.proofs.WordsLaws.{pair-filled, pair-free, words-found, words-slot}
+use Rattle.region.proofs.Decoded.{first-back}
+use Rattle.region.proofs.Rows.{in-words}
+
+free-names : (k : ℕ) → k < slotCount → Names (freePair k) k
+unfolding freePair
+free-names k h = record { valid = omega arith; region = omega arith }
+
+selects : (mpu : Mpu) (w : Pair) (k : ℕ) → Names w k → selectedBy mpu w ≡ k
+selects mpu w k names =
+    ap (λ (b : Bool). cond b (rbarOf (w .first) .region) (mpu .selected)) (eq-eqb _ _ (names .valid)) ∙ names .region
+
+-- the last pair is written after the others
+last-written : (mpu : Mpu) (pairs : List Pair) (w : Pair) → programmed mpu (pairs ++ (w ∷ [])) ≡ written (programmed mpu pairs) w
+unfolding programmed
+last-written mpu [] w = refl
+last-written mpu (v ∷ pairs) w = last-written (written mpu v) pairs w
+
+module _ (slot : ℕ → Pair) (mpu : Mpu) where
+  all-written : (n : ℕ) → ((k : ℕ) → k < n → Names (slot k) k) → (k : ℕ) → k < n → programmed mpu (upTo slot n) .regions k ≡ slot k
+  unfolding upTo
+  all-written zero names k h = absurd (omega arith)
+  all-written (suc n) names k h =
+      let before = programmed mpu (upTo slot n) in
+      ap (λ (u : Mpu). u .regions k) (last-written mpu (upTo slot n) (slot n))
+      ∙ ap (λ (at : ℕ). cond (eqb k at) (slot n) (before .regions k)) (selects before (slot n) n (names n (omega arith)))
+      ∙ elim (ℕ-discrete k n) [
+        | yes here ↦ ap (λ (b : Bool). cond b (slot n) (before .regions k)) (eq-eqb k n here) ∙ ap slot (sym here)
+        | no elsewhere ↦
+            ap (λ (b : Bool). cond b (slot n) (before .regions k)) (ne-eqb k n elsewhere)
+            ∙ all-written n (λ j below. names j (omega arith)) k (omega arith)
+      ]
+
+module _ (p : Plan) (u32 : AllU32 (p .rows)) (a : declared.Accepted p) (q : ℕ) where
+  pub names-itself : (k : ℕ) → k < slotCount → Names (pairAt (ownRows p q) k) k
+  names-itself k h =
+      elim (decLt k (length (ownRows p q))) [
+        | yes filled ↦
+            let back = first-back k (getD (ownRows p q) k noRow) (in-words p a q u32 k filled) (omega arith) in
+            rw (pair-filled (ownRows p q) k filled) (record { valid = ap (λ (f : Rbar). f .valid) back; region = ap (λ (f : Rbar). f .region) back })
+        | no free ↦ rw (pair-free (ownRows p q) k (omega arith)) (free-names k h)
+      ]
+
+  -- whatever the unit held before, each of its regions 0 to 7 now has the pair of that slot
+  pub nothing-stays : q ≤ maxPartition → (mpu : Mpu) (k : ℕ) → k < slotCount
+      → programmed mpu (wordsOf p q .slots) .regions k ≡ getD (wordsOf p q .slots) k noPair
+  nothing-stays known mpu k h =
+      ap (λ (w : Words). programmed mpu (w .slots) .regions k) (words-found p q (all-accepted p a) known)
+      ∙ all-written (pairAt (ownRows p q)) mpu slotCount names-itself k h
+      ∙ sym (words-slot p q a known k h)

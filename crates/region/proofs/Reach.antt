@@ -1,0 +1,56 @@
+-- The words of an accepted plan are as planned, slot by slot and in the unit that they are written to, so partitions are separated under
+-- both.
+-- Assumes nothing.
+use mathlib.Core.Path.{_≡_, sym, ap, _∙_}
+use Prim.Native.Nat.{ℕ, _≤_, _<_}
+use native.Mathlib.Decide.{decLt}
+use native.Mathlib.Omega.{arith}
+use lib.ListN.{length, getD}
+use Rattle.plan.specs.Plan.{Plan, AllU32, maxPartition}
+use Rattle.plan.specs.Own.{noRow, ownRows}
+use Rattle.plan.specs.Accepted as declared
+use Rattle.region.specs.Slots.{slotCount, rowSlots, AsPlanned, Separated, NoTwoShare}
+use Rattle.region.specs.Manual.{decode, Mpu}
+use Rattle.region.specs.Words.{pairAt, noPair, wordsOf, sums, slotsUnder, slotsIn}
+use Rattle.region.proofs.WordsLaws.{pair-filled, pair-free, words-slot}
+use Rattle.region.proofs.Decoded.{row-sums, slot-is-row, free-slot}
+use Rattle.region.proofs.Rows.{in-words}
+use Rattle.region.proofs.Programmed.{nothing-stays}
+use Rattle.region.proofs.Separation.{slot-free, slot-filled, separated, no-two-share}
+
+module _ (p : Plan) (u32 : AllU32 (p .rows)) (a : declared.Accepted p) where
+  -- a slot with a row has document 01's sums
+  pub as-summed : (q : ℕ) → q ≤ maxPartition → (k : ℕ) → k < length (ownRows p q)
+      → getD (wordsOf p q .slots) k noPair ≡ sums k (getD (ownRows p q) k noRow)
+  as-summed q known k filled =
+      words-slot p q a known k (omega (arith, a .eight-rows-at-most q))
+      ∙ pair-filled (ownRows p q) k filled ∙ row-sums k (getD (ownRows p q) k noRow) (in-words p a q u32 k filled)
+
+  slot-as-planned : (q k : ℕ) → k < slotCount → decode (pairAt (ownRows p q) k) ≡ rowSlots (ownRows p q) k
+  slot-as-planned q k h =
+      elim (decLt k (length (ownRows p q))) [
+        | yes filled ↦
+            ap decode (pair-filled (ownRows p q) k filled)
+            ∙ slot-is-row k (getD (ownRows p q) k noRow) (in-words p a q u32 k filled) (omega arith)
+            ∙ sym (slot-filled (ownRows p q) k filled)
+        | no free ↦
+            ap decode (pair-free (ownRows p q) k (omega arith)) ∙ free-slot k ∙ sym (slot-free (ownRows p q) k (omega arith))
+      ]
+
+  pub as-planned : AsPlanned p (slotsUnder p)
+  as-planned q known k h = ap decode (words-slot p q a known k h) ∙ slot-as-planned q k h
+
+  pub as-programmed : (mpu : Mpu) → AsPlanned p (slotsIn mpu p)
+  as-programmed mpu q known k h = ap decode (nothing-stays p u32 a q known mpu k h) ∙ as-planned q known k h
+
+  pub separation : Separated (slotsUnder p) (slotsUnder p)
+  separation = separated p a as-planned as-planned
+
+  pub separation-in-unit : (mpu mpu′ : Mpu) → Separated (slotsIn mpu p) (slotsIn mpu′ p)
+  separation-in-unit mpu mpu′ = separated p a (as-programmed mpu) (as-programmed mpu′)
+
+  pub no-overlap : NoTwoShare (slotsUnder p)
+  no-overlap = no-two-share p a as-planned
+
+  pub no-overlap-in-unit : (mpu : Mpu) → NoTwoShare (slotsIn mpu p)
+  no-overlap-in-unit mpu = no-two-share p a (as-programmed mpu)

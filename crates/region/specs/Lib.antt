@@ -1,0 +1,4 @@
+pub mod Manual
+pub mod Parts
+pub mod Slots
+pub mod Words
