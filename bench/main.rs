@@ -1,4 +1,4 @@
-//! Times the proved check and lookup against the ordinary Rust of ordinary.rs, on one plan, turn by turn in one run. Each figure is
+//! Times the proved check, lookup and region words against the ordinary Rust of ordinary.rs, on one plan, turn by turn in one run. Each figure is
 //! the median of the rounds; the ratio is the proved one's time over the ordinary one's, round by round.
 
 #[path = "../tests/host.rs"]
@@ -52,6 +52,14 @@ fn main() {
             times,
             || _ = black_box(host::check(black_box(length), &windows, &rows)),
             || _ = black_box(ordinary::check(black_box(length), &windows, &rows)),
+        );
+        let pairs = |partition| host::words(length, &windows, &rows, partition).slots.map(|pair| (pair.first, pair.second));
+        assert_eq!(Some(pairs(3)), ordinary::words(length, &windows, &rows, 3).ok());
+        compare(
+            &format!("region words, 64 windows, {row_count} rows"),
+            times,
+            || _ = black_box(host::words(length, &windows, &rows, black_box(3))),
+            || _ = black_box(ordinary::words(length, &windows, &rows, black_box(3)).ok()),
         );
         for (place, t) in [("first", 0), ("last", length - 1)] {
             assert_eq!(Some(host::lookup(length, &windows, &rows, t).window), ordinary::lookup(length, &windows, &rows, t).ok());

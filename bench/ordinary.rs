@@ -1,4 +1,4 @@
-//! The check and the lookup as one would write them in Rust with nothing to prove: chunks, an early return, a counter a partition.
+//! The check, the lookup and the region words as one would write them in Rust with nothing to prove: chunks, an early return, a counter a partition.
 
 pub struct Refused(pub u32, pub u32);
 
@@ -66,4 +66,18 @@ pub fn lookup(length: u32, windows: &[u32], rows: &[u32], t: u32) -> Result<u32,
     }
     let found = windows.chunks_exact(3).position(|w| u64::from(t) < u64::from(w[1]) + u64::from(w[2]));
     Ok(found.unwrap_or(0) as u32)
+}
+
+pub fn words(length: u32, windows: &[u32], rows: &[u32], partition: u32) -> Result<[(u32, u32); 8], Refused> {
+    check(length, windows, rows)?;
+    if partition > 15 {
+        return Err(Refused(15, 0));
+    }
+    let mut slots = std::array::from_fn(|k| (16 + k as u32, 0));
+    for (k, r) in rows.chunks_exact(4).filter(|r| r[0] == partition).enumerate() {
+        let ap = if r[3] == 1 { 3 } else { 6 };
+        let xn = u32::from(r[3] != 2);
+        slots[k] = (r[1] | 16 | k as u32, xn << 28 | ap << 24 | 1 << 19 | (r[2].trailing_zeros() - 1) << 1 | 1);
+    }
+    Ok(slots)
 }

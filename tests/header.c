@@ -30,6 +30,21 @@ int main(void)
     expect("a refused window", w.window, 0);
     expect("a refused number", w.outcome.number, 5);
     expect("a refused place", w.outcome.place, 3);
+    struct shillingnook_region_words r = shillingnook_words(frame, windows, 12, rows, 4, 1);
+    expect("the first word of slot 0", r.slots[0].first, 0x20000010);
+    expect("the second word of slot 0", r.slots[0].second, 0x13080013);
+    expect("the first word of slot 7", r.slots[7].first, 0x17);
+    expect("the second word of slot 7", r.slots[7].second, 0);
+    expect("the words' number", r.outcome.number, 0);
+    expect("the words' place", r.outcome.place, 0);
+    r = shillingnook_words(frame, windows, 12, rows, 4, 16);
+    expect("partition 16's slot 7", r.slots[7].first, 0);
+    expect("partition 16's number", r.outcome.number, 15);
+    expect("partition 16's place", r.outcome.place, 0);
+    r = shillingnook_words(frame, windows, 12, rows, 8, 16);
+    expect("a refused plan's slot 7", r.slots[7].first, 0);
+    expect("a refused plan's number", r.outcome.number, 11);
+    expect("a refused plan's place", r.outcome.place, 1);
     if (!wrong)
         puts("header: the answers cross as declared");
     return wrong;

@@ -1,10 +1,12 @@
-//! Compares the proved check and lookup with the oracle on many plans: sound ones, and sound ones with a number or two changed, a
-//! record torn, or too many records. Fails at the first difference, and if some refusal number never came up.
+//! Compares the proved check, lookup and region words with the oracle on many plans: sound ones, and sound ones with a number or two
+//! changed, a record torn, or too many records. The words of accepted plans are also written to a unit, and what it lets through is
+//! compared with the rows. Fails at the first difference, and if some refusal number never came up.
 //! Usage: compare [PLANS [SEED]]
 
 #[path = "../host.rs"]
 mod host;
 mod oracle;
+mod unit;
 
 struct Dice(u64);
 
@@ -114,6 +116,48 @@ fn ticks(d: &mut Dice, plan: &Plan) -> Vec<u32> {
     ticks
 }
 
+/// Partitions with and without rows, and one that there is not.
+fn partitions(d: &mut Dice, plan: &Plan) -> Vec<u32> {
+    let mut partitions = vec![d.below(16) as u32, d.pick(&[15, 16, 17, u32::MAX])];
+    partitions.extend((!plan.rows.is_empty()).then(|| plan.rows[d.below(plan.rows.len() as u64) as usize / 4 * 4]));
+    partitions
+}
+
+/// Addresses at the edges of rows, and one anywhere.
+fn addresses(d: &mut Dice, plan: &Plan) -> Vec<u32> {
+    let mut addresses = vec![d.next() as u32];
+    for _ in 0..plan.rows.len().min(4) {
+        let row = d.below(plan.rows.len() as u64 / 4) as usize * 4;
+        let (base, size) = (plan.rows[row + 1], plan.rows[row + 2]);
+        addresses.extend([base, base.wrapping_sub(1), base.wrapping_add(size), base.wrapping_add(size - 1)]);
+    }
+    addresses
+}
+
+/// What the partition's own rows say of an address.
+fn said(rows: &[u32], partition: u32, address: u32) -> unit::Rights {
+    let own = |r: &&[u32]| r[0] == partition && address >= r[1] && address - r[1] < r[2];
+    rows.chunks(4).find(own).map_or(unit::Rights::default(), |r| unit::Rights { read: true, write: r[3] == 1, execute: r[3] == 2 })
+}
+
+fn compare_words(d: &mut Dice, n: u64, plan: &Plan) -> u64 {
+    let Plan { length, windows, rows } = plan;
+    let mut refused = 0;
+    for partition in partitions(d, plan) {
+        let (ours, theirs) = (host::words(*length, windows, rows, partition), oracle::words(*length, windows, rows, partition));
+        assert_eq!(ours, theirs, "plan {n}, partition {partition}: length {length}, windows {windows:?}, rows {rows:?}");
+        refused += u64::from(ours.outcome.number == 15);
+        if ours.outcome.number == 0 {
+            let mut unit = unit::Unit::open();
+            ours.slots.into_iter().for_each(|pair| unit.write(pair));
+            for x in addresses(d, plan) {
+                assert_eq!(unit.rights(x), said(rows, partition, x), "plan {n}, partition {partition}, address {x:#x}: rows {rows:?}");
+            }
+        }
+    }
+    refused
+}
+
 fn number(argument: Option<String>, default: u64) -> u64 {
     argument.map_or(default, |a| a.parse().expect("a number"))
 }
@@ -122,7 +166,7 @@ fn main() {
     let mut arguments = std::env::args().skip(1);
     let plans = number(arguments.next(), 100_000);
     let mut d = Dice(number(arguments.next(), 20_261_115) | 1);
-    let mut seen = [0u64; 13];
+    let mut seen = [0u64; 14];
     for n in 0..plans {
         let mut plan = Plan { length: 0, windows: Vec::new(), rows: Vec::new() };
         sound_windows(&mut d, &mut plan);
@@ -139,7 +183,8 @@ fn main() {
             assert_eq!(ours, theirs, "plan {n}, tick {t}: length {length}, windows {windows:?}, rows {rows:?}");
             seen[12] += u64::from(ours.outcome.number == 12);
         }
+        seen[13] += compare_words(&mut d, n, &plan);
     }
     assert!(seen.iter().all(|&times| times > 0), "a number never came up: {seen:?}");
-    println!("compare: {plans} plans, the same answers; accepted and refused 1 to 12: {seen:?}");
+    println!("compare: {plans} plans, the same answers; accepted, refused 1 to 12, and 15: {seen:?}");
 }

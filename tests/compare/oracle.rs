@@ -1,7 +1,7 @@
-//! Document 01's check and lookup a second time, by another way than the proved code: every fault of the whole plan is collected
+//! Document 01's check, lookup and region words a second time, by another way than the proved code: every fault of the whole plan is collected
 //! with its rank in document 01's order, and the least is the answer. Slow, and nothing is left out on the way.
 
-use crate::host::{Outcome, Whereabouts};
+use crate::host::{Outcome, Pair, RegionWords, Whereabouts};
 
 struct Window {
     owner: u32,
@@ -70,4 +70,25 @@ pub fn lookup(length: u32, windows: &[u32], rows: &[u32], t: u32) -> Whereabouts
         Some(window) => Whereabouts { window: window as u32, outcome },
         None => Whereabouts { window: 0, outcome: Outcome { number: 12, place: 0 } },
     }
+}
+
+/// Bits put together by shifts, the size field from the other end of the word.
+fn pair(slot: u32, row: &[u32]) -> Pair {
+    let (base, size, access) = (row[1], row[2], row[3]);
+    let (ap, xn) = [(6, 1), (3, 1), (6, 0)][access as usize];
+    Pair { first: base | 1 << 4 | slot, second: xn << 28 | ap << 24 | 1 << 19 | (30 - size.leading_zeros()) << 1 | 1 }
+}
+
+pub fn words(length: u32, windows: &[u32], rows: &[u32], partition: u32) -> RegionWords {
+    let outcome = match check(length, windows, rows) {
+        Outcome { number: 0, .. } if partition > 15 => Outcome { number: 15, place: 0 },
+        outcome => outcome,
+    };
+    let none = Pair { first: 0, second: 0 };
+    if outcome.number != 0 {
+        return RegionWords { slots: [none; 8], outcome };
+    }
+    let mut own = rows.chunks(4).filter(|r| r[0] == partition);
+    let slots = std::array::from_fn(|k| own.next().map_or(Pair { first: 16 + k as u32, second: 0 }, |r| pair(k as u32, r)));
+    RegionWords { slots, outcome }
 }

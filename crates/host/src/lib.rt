@@ -4,9 +4,12 @@ ghost use mathlib.Core.Path.{_≡_};
 ghost use Rattle.plan.specs.Plan.{planOf};
 ghost use Rattle.plan.specs.Faults.{verdictOf};
 ghost use Rattle.plan.specs.Lookup.{lookupOf};
-ghost use Rattle.host.specs.Numbers.{outcomeOf, whereaboutsOf};
+ghost use Rattle.region.specs.Words.{wordsOf};
+ghost use Rattle.host.specs.Numbers.{outcomeOf, whereaboutsOf, regionWordsOf};
 use plan::Frame;
+use plan::PartitionNo;
 use refusal::Verdict;
+use region::Pair;
 
 #[repr(C)]
 pub struct Outcome {
@@ -17,6 +20,12 @@ pub struct Outcome {
 #[repr(C)]
 pub struct Whereabouts {
     pub window: u32,
+    pub outcome: Outcome,
+}
+
+#[repr(C)]
+pub struct RegionWords {
+    pub slots: [Pair; 8],
     pub outcome: Outcome,
 }
 
@@ -59,4 +68,20 @@ pub extern "C" fn shillingnook_lookup(
         window: located.window.0,
         outcome,
     }
+}
+
+#[no_mangle]
+pub extern "C" fn shillingnook_words(
+    frame: Frame,
+    windows: &[u32],
+    rows: &[u32],
+    partition: u32,
+) -> RegionWords
+    ensures { λ r. ⌜ r ≡ regionWordsOf (wordsOf (planOf frame (now (windows .entry)) (now (rows .entry))) partition) ⌝ }
+{
+    let words = region::words_of(frame, windows, rows, PartitionNo(partition));
+    let slots = words.slots;
+    let verdict = words.verdict;
+    let outcome = outcome_of(verdict);
+    RegionWords { slots, outcome }
 }
