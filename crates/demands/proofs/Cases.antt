@@ -10,13 +10,13 @@ use Rattle.plan.specs.Plan.{rowsOf}
 use Rattle.plan.specs.Faults.{wrongCounts, sharesAddress, clashes, clashTest, clashesBefore, wrong, pastCounts, order, verdictOf}
 use Rattle.plan.specs.Lookup.{lookupVerdict, located, lookupOf}
 use Rattle.region.specs.declared.Words.{Words}
-use Rattle.region.specs.Slots.{write, Slot}
+use Rattle.region.specs.Slots.{write, Slot, atSlot}
 use Rattle.region.specs.Manual.{decode}
-use Rattle.region.specs.Words.{noPair, rowPair, freePair, pairAt, upTo, wordsVerdict, answer, wordsOf}
-use Rattle.demands.specs.Cases.{four, frameA, threeRows, Table, LastByteWritten}
+use Rattle.region.specs.Words.{noPair, rowPair, freePair, upTo, wordsVerdict, answer, wordsOf}
+use Rattle.demands.specs.Cases.{four, frameA, threeRows, Table, lastByte, LastByteWritten}
 
 pub table : Table
-unfolding refuseIf orElse refused firstFault upward testAt firstOf holdsb windowAt rowsOf wrongCounts sharesAddress clashes clashTest clashesBefore wrong pastCounts order verdictOf lookupVerdict located lookupOf four frameA threeRows ones trailingZeros rowPair freePair pairAt upTo wordsVerdict answer wordsOf
+unfolding refuseIf orElse refused firstFault upward testAt firstOf holdsb windowAt rowsOf wrongCounts sharesAddress clashes clashTest clashesBefore wrong pastCounts order verdictOf lookupVerdict located lookupOf four frameA threeRows ones trailingZeros rowPair freePair atSlot upTo wordsVerdict answer wordsOf
 table =
     record {
       a-is-accepted = refl;
@@ -38,6 +38,6 @@ last-byte-written =
     record {
       slot = 0;
       in-range = omega arith;
-      covered = ap (λ (s : Slot). s .covers 0x200003FF) slot;
+      covered = ap (λ (s : Slot). s .covers lastByte) slot;
       permitted = ap (λ (s : Slot). s .permits write) slot;
     }

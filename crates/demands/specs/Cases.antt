@@ -55,5 +55,8 @@ pub record Table : Type 0 where
       }
 
 -- there are addresses that a partition may write: the last byte of the first of the three rows
+abbrev pub lastByte : ℕ
+lastByte = 0x200003FF
+
 abbrev pub LastByteWritten : Type 0
-LastByteWritten = Reached (slotsUnder threeRows 0) write 0x200003FF
+LastByteWritten = Reached (slotsUnder threeRows 0) write lastByte

@@ -2,7 +2,7 @@
 -- of them. Who asks for a partition's rows needs no law about the table.
 -- Assumes nothing.
 use mathlib.Core.Bool.{Bool, true, false, cond}
-use mathlib.Core.List.{List, [], _∷_, _++_, append-nil, append-assoc}
+use mathlib.Core.List.{List, [], _∷_, _++_, append-nil}
 use mathlib.Core.Path.{_≡_, refl, sym, ap, _∙_}
 use Prim.Native.Nat.{ℕ, zero, suc, _+_, _-_, _*_, _^_, _≤_, _<_}
 use native.Mathlib.Numerals.{add-one}
@@ -10,8 +10,8 @@ use native.Mathlib.Decide.{decLt, ℕ-discrete}
 use native.Mathlib.Omega.{arith}
 use borrow.Author.Tests.{eq-eqb}
 use lib.Dec.{eqb}
-use lib.ListN.{length, getD, set, replicate, length-append, List·getD-append}
-use lib.Seq.{getD-append-seam, set-append-seam}
+use lib.ListN.{length, getD, set, length-append, List·getD-append}
+use lib.Seq.{getD-append-seam}
 use Rattle.refusal.specs.declared.Refusal.{Refusal}
 use Rattle.refusal.specs.declared.Verdict.{Verdict}
 use Rattle.refusal.specs.declared.Verdict.the-variants.{Accepted, Refused}
@@ -22,28 +22,18 @@ use Rattle.plan.specs.Parts.{oneIfOwn, withOwn}
 use Rattle.plan.specs.Own.{noRow, packed, owned, ownRows, ownRowsOf}
 use Rattle.plan.specs.Accepted as declared
 use Rattle.plan.specs.Accepted.{PowerOfTwo, MultipleOf, RowsClash}
+use Rattle.plan.proofs.PaddedLaws.{one-more}
 use Rattle.plan.proofs.RowLaws.{count-own, count-other}
 
--- a row more goes to the first free place
+-- a row more, if it is the partition's
 with-own : (own : List Row) (r : Row) (q : ℕ) → length own + oneIfOwn r q ≤ maxRowsEach
     → withOwn (packed own) r q ≡ packed (own ++ cond (eqb (r .partition .0) q) (r ∷ []) [])
 unfolding withOwn packed
 with-own own r q h = of (eqb (r .partition .0) q) h
   where
-    grown : length (own ++ (r ∷ [])) ≡ length own + 1
-    grown = length-append own (r ∷ [])
-
-    filled : length own < maxRowsEach
-        → set (own ++ replicate (maxRowsEach - length own) noRow) (length own) r ≡ own ++ (r ∷ []) ++ replicate (maxRowsEach - length (own ++ (r ∷ []))) noRow
-    filled room =
-        let one-less : maxRowsEach - length own ≡ suc (maxRowsEach - length (own ++ (r ∷ []))) = omega (arith, grown) in
-        ap (λ (n : ℕ). set (own ++ replicate n noRow) (length own) r) one-less
-        ∙ set-append-seam own noRow (replicate (maxRowsEach - length (own ++ (r ∷ []))) noRow) r
-        ∙ sym (append-assoc own (r ∷ []) (replicate (maxRowsEach - length (own ++ (r ∷ []))) noRow))
-
     of : (b : Bool) → length own + cond b 1 0 ≤ maxRowsEach
         → cond b (record { rows = set (packed own .rows) (length own) r; count = length own + 1 }) (packed own) ≡ packed (own ++ cond b (r ∷ []) [])
-    of true room = λ k. record { rows = filled (omega arith) k; count = sym grown k }
+    of true room = λ k. record { rows = one-more maxRowsEach noRow own r (omega arith) k; count = sym (length-append own (r ∷ [])) k }
     of false room = ap packed (sym (append-nil own))
 
 pub packed-count : (own : List Row) → packed own .count ≡ length own
@@ -55,7 +45,7 @@ pub own-step : (rows : List ℕ) (q n : ℕ) → length (rowsOf rows q n) + oneI
 unfolding rowsOf
 own-step rows q n room = with-own (rowsOf rows q n) (nthRow rows n) q room ∙ ap (λ (m : ℕ). packed (rowsOf rows q m)) (sym (add-one n))
 
--- the two answers of `rows_of`
+-- the two answers of `own_rows`
 module _ (p : Plan) (q : ℕ) where
   pub owned-refused : (r : Refusal) → verdictOf p ≡ Refused r → ownRowsOf p q ≡ record { own = packed []; verdict = Refused r }
   unfolding ownRowsOf owned

@@ -14,6 +14,7 @@ use Rattle.refusal.specs.declared.Refusal.{Refusal}
 use Rattle.refusal.specs.declared.Refusal.the-variants.{NinthRow}
 use Rattle.refusal.specs.declared.Verdict.the-variants.{Accepted, Refused}
 use Rattle.refusal.specs.First.{refuseIf, orElse}
+use Rattle.refusal.proofs.Tests.{either-at-most}
 use Rattle.plan.specs.declared.Row.{Row}
 use Rattle.plan.specs.Plan.{maxRowsEach, nthRow, rowsOf}
 use Rattle.plan.specs.Faults.{clashesBefore}
@@ -23,19 +24,18 @@ one-or-none : (b : Bool) (r : Row) → length (cond b (r ∷ []) []) ≡ cond b 
 one-or-none true r = refl
 one-or-none false r = refl
 
-one-at-most : (b : Bool) → cond b 1 0 ≤ 1
-one-at-most true = omega arith
-one-at-most false = omega arith
-
 module _ (rows : List ℕ) (q : ℕ) where
   pub count-step : (n : ℕ) → length (rowsOf rows q (suc n)) ≡ length (rowsOf rows q n) + oneIfOwn (nthRow rows n) q
   unfolding rowsOf
   count-step n = simp (length-append, one-or-none)
 
+  own-at-most : (n : ℕ) → oneIfOwn (nthRow rows n) q ≤ 1
+  own-at-most n = either-at-most (eqb (nthRow rows n .partition .0) q) (omega arith) (omega arith)
+
   pub count-le : (n : ℕ) → length (rowsOf rows q n) ≤ n
   unfolding rowsOf
   count-le zero = omega arith
-  count-le (suc n) = omega (arith, count-step n, count-le n, one-at-most (eqb (nthRow rows n .partition .0) q))
+  count-le (suc n) = omega (arith, count-step n, count-le n, own-at-most n)
 
   pub count-mono : (m n : ℕ) → m ≤ n → length (rowsOf rows q m) ≤ length (rowsOf rows q n)
   count-mono m zero h = let same : m ≡ 0 = omega arith in rw same (omega arith)

@@ -14,8 +14,12 @@ use Rattle.plan.specs.Faults.{verdictOf}
 abbrev pub noRow : Row
 noRow = record { partition = record { 0 = 0 }; base = 0; size = 0; access = 0 }
 
+-- a list in the first places of an array of n, and d in the others
+unfoldable pub padded : {A : Type 0} → ℕ → A → List A → List A
+padded n d list = list ++ replicate (n - length list) d
+
 unfoldable pub packed : List Row → OwnRows
-packed own = record { rows = own ++ replicate (maxRowsEach - length own) noRow; count = length own }
+packed own = record { rows = padded maxRowsEach noRow own; count = length own }
 
 -- a refusal hands out no rows
 unfoldable pub owned : Verdict → List Row → Owned

@@ -1,8 +1,10 @@
-// Document 01's cases on plans, one to a line, with some neighbours: the verdict's number and place, 0 0 where accepted. A line on a
-// tick has the window too.
+// Document 01's cases on plans and their region words, one to a line, with some neighbours: the verdict's number and place, 0 0 where
+// accepted. A line on a tick has the window too, one on words the eight pairs.
 ghost use Prim.Native.Nat.{_≤_, _<_};
 use plan::Frame;
 use refusal::Verdict;
+
+mod words;
 
 const OUT: i32 = 1;
 
@@ -183,4 +185,5 @@ fn main() {
     rows();
     clashes();
     ticks();
+    words::words();
 }

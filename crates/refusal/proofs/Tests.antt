@@ -1,6 +1,6 @@
 -- What a test says of the numbers it was made on.
 -- Assumes nothing.
-use mathlib.Core.Bool.{Bool, true, false, not, _||_, true≢false, false≢true}
+use mathlib.Core.Bool.{Bool, true, false, cond, not, _||_, true≢false, false≢true}
 use mathlib.Core.Logic.{_↔_, _⊎_, inl, inr}
 use mathlib.Core.Path.{_≡_, refl, ap}
 use Prim.Native.Nat.{ℕ, _≤_, _<_}
@@ -39,3 +39,8 @@ above a b = (ltb-true a b, lt-ltb a b)
 pub either : (a b : Bool) → a || b ≡ true → (a ≡ true) ⊎ (b ≡ true)
 either true b e = inl refl
 either false b e = inr e
+
+-- one of two numbers, as a test says, is at most m if both are
+pub either-at-most : (b : Bool) {x y m : ℕ} → x ≤ m → y ≤ m → cond b x y ≤ m
+either-at-most true x-small y-small = x-small
+either-at-most false x-small y-small = y-small

@@ -19,7 +19,7 @@ use Rattle.region.specs.Manual.{rasrWord, rbarOf, rasrOf, sizeOf, baseOf
 use Rattle.region.specs.Words.{sizeField, apOf, xnOf, readAp, writeAp, rowRbar, rowRasr, rowPair, freePair, sums}
 use Rattle.region.proofs.WordsLaws.{ap-at-most, xn-at-most}
 use Rattle.region.proofs.Fields.{rbar-back, rasr-back}
-use Rattle.region.proofs.Powers.{zeros-of-power}
+use Rattle.region.proofs.Zeros.{zeros-of-power}
 
 -- a row whose size is a power of two from 32 on, whose base is a multiple of it, and whose numbers are words
 pub record InWords (r : Row) : Type 0 where
@@ -149,6 +149,6 @@ switched-off first = λ j. record { covers = λ x. false; permits = λ right. no
     none write = refl
     none execute = refl
 
-pub free-slot : (k : ℕ) → decode (freePair k) ≡ noSlot
+pub free-covers-nothing : (k : ℕ) → decode (freePair k) ≡ noSlot
 unfolding freePair
-free-slot k = switched-off (freePair k .first)
+free-covers-nothing k = switched-off (freePair k .first)

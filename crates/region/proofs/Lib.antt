@@ -1,8 +1,9 @@
 pub mod Decoded
 pub mod Fields
-pub mod Powers
 pub mod Programmed
 pub mod Reach
 pub mod Rows
 pub mod Separation
+pub mod SlotLaws
 pub mod WordsLaws
+pub mod Zeros

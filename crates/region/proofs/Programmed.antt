@@ -17,8 +17,9 @@ use Rattle.region.specs.declared.Pair.{Pair}
 use Rattle.region.specs.declared.Words.{Words}
 use Rattle.region.specs.Slots.{slotCount}
 use Rattle.region.specs.Manual.{Rbar, rbarOf, Mpu, selectedBy, written, programmed, Names}
-use Rattle.region.specs.Words.{freePair, pairAt, upTo, noPair, wordsOf}
-use Rattle.region.proofs.WordsLaws.{pair-filled, pair-free, words-found, words-slot}
+use Rattle.region.specs.Words.{rowPair, freePair, pairAt, upTo, noPair, wordsOf}
+use Rattle.region.proofs.WordsLaws.{words-found, words-slot}
+use Rattle.region.proofs.SlotLaws.{filled-slot, free-slot}
 use Rattle.region.proofs.Decoded.{first-back}
 use Rattle.region.proofs.Rows.{in-words}
 
@@ -57,8 +58,8 @@ module _ (p : Plan) (u32 : AllU32 (p .rows)) (a : declared.Accepted p) (q : ℕ)
       elim (decLt k (length (ownRows p q))) [
         | yes filled ↦
             let back = first-back k (getD (ownRows p q) k noRow) (in-words p a q u32 k filled) (omega arith) in
-            rw (pair-filled (ownRows p q) k filled) (record { valid = ap (λ (f : Rbar). f .valid) back; region = ap (λ (f : Rbar). f .region) back })
-        | no free ↦ rw (pair-free (ownRows p q) k (omega arith)) (free-names k h)
+            rw (filled-slot (rowPair k) (freePair k) (length (ownRows p q)) (ownRows p q) k filled) (record { valid = ap (λ (f : Rbar). f .valid) back; region = ap (λ (f : Rbar). f .region) back })
+        | no free ↦ rw (free-slot (rowPair k) (freePair k) (length (ownRows p q)) (ownRows p q) k (omega arith)) (free-names k h)
       ]
 
   -- whatever the unit held before, each of its regions 0 to 7 now has the pair of that slot

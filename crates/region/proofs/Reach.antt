@@ -9,14 +9,15 @@ use lib.ListN.{length, getD}
 use Rattle.plan.specs.Plan.{Plan, AllU32, maxPartition}
 use Rattle.plan.specs.Own.{noRow, ownRows}
 use Rattle.plan.specs.Accepted as declared
-use Rattle.region.specs.Slots.{slotCount, rowSlots, AsPlanned, Separated, NoTwoShare}
+use Rattle.region.specs.Slots.{slotCount, rowSlot, noSlot, rowSlots, AsPlanned, Separated, NoTwoShare}
 use Rattle.region.specs.Manual.{decode, Mpu}
-use Rattle.region.specs.Words.{pairAt, noPair, wordsOf, sums, slotsUnder, slotsIn}
-use Rattle.region.proofs.WordsLaws.{pair-filled, pair-free, words-slot}
-use Rattle.region.proofs.Decoded.{row-sums, slot-is-row, free-slot}
+use Rattle.region.specs.Words.{rowPair, freePair, pairAt, noPair, wordsOf, sums, slotsUnder, slotsIn}
+use Rattle.region.proofs.WordsLaws.{words-slot}
+use Rattle.region.proofs.SlotLaws.{filled-slot, free-slot}
+use Rattle.region.proofs.Decoded.{row-sums, slot-is-row, free-covers-nothing}
 use Rattle.region.proofs.Rows.{in-words}
 use Rattle.region.proofs.Programmed.{nothing-stays}
-use Rattle.region.proofs.Separation.{slot-free, slot-filled, separated, no-two-share}
+use Rattle.region.proofs.Separation.{separated, no-two-share}
 
 module _ (p : Plan) (u32 : AllU32 (p .rows)) (a : declared.Accepted p) where
   -- a slot with a row has document 01's sums
@@ -24,17 +25,20 @@ module _ (p : Plan) (u32 : AllU32 (p .rows)) (a : declared.Accepted p) where
       → getD (wordsOf p q .slots) k noPair ≡ sums k (getD (ownRows p q) k noRow)
   as-summed q known k filled =
       words-slot p q a known k (omega (arith, a .eight-rows-at-most q))
-      ∙ pair-filled (ownRows p q) k filled ∙ row-sums k (getD (ownRows p q) k noRow) (in-words p a q u32 k filled)
+      ∙ filled-slot (rowPair k) (freePair k) (length (ownRows p q)) (ownRows p q) k filled
+      ∙ row-sums k (getD (ownRows p q) k noRow) (in-words p a q u32 k filled)
 
   slot-as-planned : (q k : ℕ) → k < slotCount → decode (pairAt (ownRows p q) k) ≡ rowSlots (ownRows p q) k
   slot-as-planned q k h =
-      elim (decLt k (length (ownRows p q))) [
+      let own = ownRows p q in
+      elim (decLt k (length own)) [
         | yes filled ↦
-            ap decode (pair-filled (ownRows p q) k filled)
-            ∙ slot-is-row k (getD (ownRows p q) k noRow) (in-words p a q u32 k filled) (omega arith)
-            ∙ sym (slot-filled (ownRows p q) k filled)
+            ap decode (filled-slot (rowPair k) (freePair k) (length own) own k filled)
+            ∙ slot-is-row k (getD own k noRow) (in-words p a q u32 k filled) (omega arith)
+            ∙ sym (filled-slot rowSlot noSlot (length own) own k filled)
         | no free ↦
-            ap decode (pair-free (ownRows p q) k (omega arith)) ∙ free-slot k ∙ sym (slot-free (ownRows p q) k (omega arith))
+            ap decode (free-slot (rowPair k) (freePair k) (length own) own k (omega arith)) ∙ free-covers-nothing k
+            ∙ sym (free-slot rowSlot noSlot (length own) own k (omega arith))
       ]
 
   pub as-planned : AsPlanned p (slotsUnder p)

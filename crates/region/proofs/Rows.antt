@@ -3,14 +3,15 @@
 use mathlib.Core.Path.{_≡_, ap, _∙_}
 use Prim.Native.Nat.{ℕ, suc, _-_, _^_, _<_}
 use native.Mathlib.Omega.{arith}
-use lib.ListN.{length, getD, List·getD-append}
+use lib.ListN.{length, getD}
 use Rattle.plan.specs.declared.Row.{Row}
-use Rattle.plan.specs.Plan.{Plan, AllU32}
+use Rattle.plan.specs.Plan.{Plan, AllU32, maxRowsEach}
 use Rattle.plan.specs.Own.{noRow, packed, ownRows}
 use Rattle.plan.specs.Accepted as declared
 use Rattle.plan.proofs.OwnLaws.{sound, own-u32}
+use Rattle.plan.proofs.PaddedLaws.{padded-at}
 use Rattle.region.specs.Parts.{EvenSizes}
-use Rattle.region.proofs.Powers.{zeros-of-even, exponent-from, exponent-below}
+use Rattle.region.proofs.Zeros.{zeros-of-even, exponent-from, exponent-below}
 use Rattle.region.proofs.Decoded.{InWords}
 
 module _ (p : Plan) (a : declared.Accepted p) (q : ℕ) where
@@ -22,7 +23,7 @@ module _ (p : Plan) (a : declared.Accepted p) (q : ℕ) where
       let (n, power) = s .size-is-power-of-two in
       let from-five = exponent-from n (omega (arith, power, s .size-is-32-at-least)) in
       let size : getD (packed (ownRows p q) .rows) k noRow .size ≡ 2 ^ suc (n - 1) =
-      ap (λ (r : Row). r .size) (List·getD-append (ownRows p q) _ noRow k h) ∙ power ∙ ap (λ (m : ℕ). 2 ^ m) (omega arith) in
+      ap (λ (r : Row). r .size) (padded-at maxRowsEach noRow (ownRows p q) k h) ∙ power ∙ ap (λ (m : ℕ). 2 ^ m) (omega arith) in
       rw size (zeros-of-even 31 (n - 1))
 
   pub in-words : AllU32 (p .rows) → (k : ℕ) → k < length (ownRows p q) → InWords (getD (ownRows p q) k noRow)

@@ -1,29 +1,21 @@
 -- Slots that are as planned keep partitions apart, on any controller: a slot that covers an address has a row that covers it, and two rows
 -- of an accepted plan do not clash.
 -- Assumes nothing.
-use mathlib.Core.Bool.{Bool, true, cond, false≢true, and-eq-true-iff}
-use mathlib.Core.List.{List}
+use mathlib.Core.Bool.{true, false≢true, and-eq-true-iff}
 use mathlib.Core.Logic.{inl, inr}
 use mathlib.Core.Path.{_≡_, sym, ap, _∙_}
 use Prim.Native.Nat.{ℕ, _+_, _≤_, _<_}
 use native.Mathlib.Decide.{decLt}
 use native.Mathlib.Omega.{arith}
-use borrow.Author.Tests.{leb-true, ltb-true, eqb-true, lt-ltb, le-ltb}
+use borrow.Author.Tests.{leb-true, ltb-true, eqb-true}
 use lib.ListN.{length, getD}
-use Rattle.plan.specs.declared.Row.{Row}
 use Rattle.plan.specs.Plan.{Plan, maxPartition, writable}
 use Rattle.plan.specs.Own.{noRow, ownRows}
 use Rattle.plan.specs.Accepted as declared
 use Rattle.plan.specs.Accepted.{Covers}
 use Rattle.plan.proofs.OwnLaws.{sound, no-clash}
-use Rattle.region.specs.Slots.{slotCount, write, Slot, rowSlot, noSlot, rowSlots, AsPlanned, Separated, NoTwoShare}
-
--- the slots past a partition's rows are free, the others have its rows
-pub slot-free : (own : List Row) (k : ℕ) → length own ≤ k → rowSlots own k ≡ noSlot
-slot-free own k h = ap (λ (b : Bool). cond b (rowSlot (getD own k noRow)) noSlot) (le-ltb k (length own) h)
-
-pub slot-filled : (own : List Row) (k : ℕ) → k < length own → rowSlots own k ≡ rowSlot (getD own k noRow)
-slot-filled own k h = ap (λ (b : Bool). cond b (rowSlot (getD own k noRow)) noSlot) (lt-ltb k (length own) h)
+use Rattle.region.proofs.SlotLaws.{filled-slot, free-slot}
+use Rattle.region.specs.Slots.{slotCount, write, Slot, rowSlot, noSlot, AsPlanned, Separated, NoTwoShare}
 
 -- the row of a slot that covers address x
 record Behind (p : Plan) (q k x : ℕ) (slot : Slot) : Type 0 where
@@ -37,11 +29,11 @@ module _ (p : Plan) (slots : ℕ → ℕ → Slot) (planned : AsPlanned p slots)
       elim (decLt k (length (ownRows p q))) [
         | yes filled ↦
             let r = getD (ownRows p q) k noRow in
-            let same : slots q k ≡ rowSlot r = planned q known k below ∙ slot-filled (ownRows p q) k filled in
+            let same : slots q k ≡ rowSlot r = planned q known k below ∙ filled-slot rowSlot noSlot (length (ownRows p q)) (ownRows p q) k filled in
             let (from, before) = simp and-eq-true-iff at (sym (ap (λ (slot : Slot). slot .covers x) same) ∙ covered) in
             record { is-row = filled; is-slot = same; covers = record { from = leb-true (r .base) x from; before = ltb-true x (r .base + r .size) before } }
         | no free ↦
-            let nothing : slots q k ≡ noSlot = planned q known k below ∙ slot-free (ownRows p q) k (omega arith) in
+            let nothing : slots q k ≡ noSlot = planned q known k below ∙ free-slot rowSlot noSlot (length (ownRows p q)) (ownRows p q) k (omega arith) in
             absurd (false≢true (sym (ap (λ (slot : Slot). slot .covers x) nothing) ∙ covered))
       ]
 

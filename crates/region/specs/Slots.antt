@@ -39,9 +39,12 @@ rowSlot r = record { covers = λ x. leb (r .base) x && ltb x (r .base + r .size)
 abbrev pub noSlot : Slot
 noSlot = record { covers = λ x. false; permits = λ right. false }
 
--- slot k has the partition's row k, if there is one
+-- of `count` rows, what row k gives to slot k; past them, what a free slot is
+unfoldable pub atSlot : {A : Type 0} → (Row → A) → A → (count : ℕ) → List Row → ℕ → A
+atSlot row free count rows k = cond (ltb k count) (row (getD rows k noRow)) free
+
 abbrev pub rowSlots : List Row → ℕ → Slot
-rowSlots own k = cond (ltb k (length own)) (rowSlot (getD own k noRow)) noSlot
+rowSlots own k = atSlot rowSlot noSlot (length own) own k
 
 -- below, `slots q` are the slots while partition q runs; they are as planned if they are q's rows, no more and no less
 abbrev pub AsPlanned : Plan → (ℕ → ℕ → Slot) → Type 0

@@ -13,11 +13,11 @@ use Rattle.refusal.specs.First.{refuseIf, orElse}
 use Rattle.plan.specs.declared.Row.{Row}
 use Rattle.plan.specs.Plan.{Plan, maxPartition, writable, executable}
 use Rattle.plan.specs.Faults.{verdictOf}
-use Rattle.plan.specs.Own.{noRow, ownRows}
+use Rattle.plan.specs.Own.{ownRows}
 use Rattle.region.specs.declared.Pair.{Pair}
 use Rattle.region.specs.declared.Words.{Words}
 use Rattle.region.specs.Manual.{Rbar, Rasr, rbarWord, rasrWord, decode, Mpu, programmed}
-use Rattle.region.specs.Slots.{slotCount, Slot}
+use Rattle.region.specs.Slots.{slotCount, Slot, atSlot}
 
 -- the number of trailing zero bits of size, less one
 abbrev pub sizeField : ℕ → ℕ
@@ -69,9 +69,9 @@ sums k r =
       second = 1 + sizeField (r .size) * 2 + 2 ^ 19 + apOf (r .access) * 2 ^ 24 + xnOf (r .access) * 2 ^ 28;
     }
 
--- slot k holds the partition's row k, if there is one
-unfoldable pub pairAt : List Row → ℕ → Pair
-pairAt own k = cond (ltb k (length own)) (rowPair k (getD own k noRow)) (freePair k)
+-- slot k of a partition with these rows
+abbrev pub pairAt : List Row → ℕ → Pair
+pairAt own k = atSlot (rowPair k) (freePair k) (length own) own k
 
 -- the pairs of slots 0, 1, .., n - 1
 unfoldable pub upTo : (ℕ → Pair) → ℕ → List Pair

@@ -7,7 +7,7 @@ use borrow.Author.Needs.{needs}
 use lib.ListN.{set}
 use Rattle.region.specs.Slots.{slotCount}
 use Rattle.region.specs.Parts.{slotAt}
-use Rattle.region.proofs.WordsLaws.{filled, unfilled, fill, full}
+use Rattle.region.proofs.WordsLaws.{filled, none-filled, fill, all-filled}
 use Rattle.region.proofs.slots_of.Statement.{statement}
 use Rattle.region.proofs.slots_of.Tie as tie
 
@@ -18,7 +18,7 @@ abbrev μ-loop : tie.MeasureT-loop
 μ-loop own slots₀ k₀ slots k = slotCount - k
 
 loop-holds : tie.Need-loop-holds Inv-loop μ-loop
-loop-holds c = (omega arith, unfilled (slotAt (c .args .own)))
+loop-holds c = (omega arith, none-filled (slotAt (c .args .own)))
 
 slot-at-requires : tie.Need-slot-at-requires Inv-loop μ-loop
 slot-at-requires c κs = (omega arith, c .before .before .pre)
@@ -50,7 +50,7 @@ returns : tie.Need-returns Inv-loop μ-loop
 returns c =
     let own = c .before .before .args .own in
     let all : c .before .loop .k ≡ slotCount = omega arith in
-    c .before .loop .inv .1 ∙ ap (filled (slotAt own)) all ∙ full (slotAt own)
+    c .before .loop .inv .1 ∙ ap (filled (slotAt own)) all ∙ all-filled (slotAt own)
 
 pub slots-of-spec : {M : Type 1} → statement M
 slots-of-spec =

@@ -8,7 +8,7 @@ use Rattle.refusal.specs.declared.Verdict.{Verdict}
 use Rattle.refusal.specs.declared.Verdict.the-variants.{Accepted}
 use Rattle.plan.specs.declared.own.OwnRows.{OwnRows}
 use Rattle.plan.specs.Plan.{Plan, planOf}
-use Rattle.plan.specs.Own.{packed}
+use Rattle.plan.specs.Own.{padded, packed}
 use Rattle.plan.specs.Faults.{verdictOf}
 use Rattle.plan.specs.Accepted as declared
 use Rattle.plan.proofs.AcceptedLaws.{accepted-all}
@@ -35,7 +35,7 @@ holds : (c : tie.After-enum-told) → declared.Accepted (plan (c .before .before
 holds c = accepted-all (plan (c .before .before .before .before .before)) (accepted c)
 
 returns : tie.Need-returns
-unfolding packed
+unfolding packed padded
 returns c =
     let start = c .before .before .before .before .before in
     let told = c .enum-told2 .given in

@@ -9,7 +9,7 @@ use Rattle.plan.specs.declared.Row.{Row}
 use Rattle.plan.specs.declared.own.OwnRows.{OwnRows}
 use Rattle.plan.specs.Plan.{maxRowsEach, nthRow, rowsOf}
 use Rattle.plan.specs.Parts.{oneIfOwn, withOwn}
-use Rattle.plan.specs.Own.{packed}
+use Rattle.plan.specs.Own.{padded, packed}
 use Rattle.plan.proofs.OwnLaws.{packed-count, own-step}
 use Rattle.plan.proofs.RowLaws.{count-step, count-mono}
 use Rattle.plan.proofs.own.packed_rows.Statement.{statement}
@@ -23,7 +23,7 @@ abbrev μ-loop : tie.MeasureT-loop
 μ-loop rows count partition own₀ j₀ own j = count - j
 
 loop-holds : tie.Need-loop-holds Inv-loop μ-loop
-unfolding rowsOf packed
+unfolding rowsOf packed padded
 loop-holds c = (omega arith, refl)
 
 nth-row-requires : tie.Need-nth-row-requires Inv-loop μ-loop

@@ -1,12 +1,12 @@
 -- `row_pair` meets its contract: its sums are the fields at their places, and no field runs into the next.
 -- Assumes nothing.
 use mathlib.Core.Path.{_≡_}
-use Prim.Native.Nat.{_+_, _-_, _*_, _/_, _^_, _≤_}
+use Prim.Native.Nat.{_+_, _-_, _*_, _^_, _≤_}
 use native.Mathlib.Omega.{arith}
 use borrow.Author.Needs.{needs}
 use lib.Count.{trailingZeros, trailing-le}
-use Rattle.region.specs.Manual.{rasrWord}
-use Rattle.region.specs.Words.{sizeField, rowRasr, rowPair}
+use Rattle.region.specs.Manual.{rbarWord, rasrWord}
+use Rattle.region.specs.Words.{sizeField, rowRbar, rowRasr, rowPair}
 use Rattle.region.proofs.WordsLaws.{ap-at-most, xn-at-most}
 use Rattle.region.proofs.v7.row_pair.Statement.{statement}
 use Rattle.region.proofs.v7.row_pair.Tie as tie
@@ -71,7 +71,7 @@ returns : tie.Need-returns
 unfolding rowPair
 returns c =
     let a = c .before .before .before .before .args in
-    λ k. record { first = a .r .base / 2 ^ 5 * 2 ^ 5 + 2 ^ 4 + a .k; second = second c k }
+    λ k. record { first = rbarWord (rowRbar (a .k) (a .r)); second = second c k }
 
 pub row-pair-spec : {M : Type 1} → statement M
 row-pair-spec =

@@ -1,13 +1,11 @@
-// Document 01's cases on region words, with some neighbours, beside the windows of frame A: the verdict's number and place, 0 0 where
-// the words are given, then the eight pairs in hexadecimal.
+// Document 01's cases on region words, with some neighbours, beside the windows of frame A: the verdict, then the eight pairs in
+// hexadecimal.
+use crate::FRAME_A;
+use crate::OUT;
+use crate::put_verdict;
 use plan::Frame;
 use plan::PartitionNo;
-use refusal::Verdict;
 use region::Pair;
-
-const OUT: i32 = 1;
-
-const FRAME_A: [u32; 12] = [0, 0, 10, 1, 10, 20, 0, 30, 5, 2, 35, 15];
 
 // Rows of partition 0 and, between them, one of partition 1.
 const FOUR_ROWS: [u32; 16] = [
@@ -69,21 +67,6 @@ const EIGHT_AND_ONE: [u32; 36] = [
     1,
 ];
 
-fn put(n: u32) {
-    io::write_all(OUT, b" ");
-    io::print_decimal(OUT, n as u64);
-}
-
-fn put_verdict(verdict: Verdict) {
-    let Verdict::Refused(r) = verdict else {
-        put(0);
-        put(0);
-        return;
-    };
-    put(refusal::number(r));
-    put(refusal::place(r));
-}
-
 fn put_pair(pair: Pair) {
     io::write_all(OUT, b" ");
     io::print_hex(OUT, pair.first as u64, 8);
@@ -99,7 +82,7 @@ fn put_slots(slots: [Pair; 8]) {
     }
 }
 
-fn show(name: &[u8], rows: &[u32], partition: u32) {
+fn show_words(name: &[u8], rows: &[u32], partition: u32) {
     let frame = Frame { length: 50 };
     let words = region::words_of(frame, &FRAME_A, rows, PartitionNo(partition));
     let verdict = words.verdict;
@@ -110,17 +93,17 @@ fn show(name: &[u8], rows: &[u32], partition: u32) {
     io::write_all(OUT, b"\n");
 }
 
-fn main() {
-    show(b"no rows:", &[], 0);
-    show(b"three rows of partition 0:", &FOUR_ROWS, 0);
-    show(b"one row of partition 1:", &FOUR_ROWS, 1);
-    show(b"none of partition 15:", &FOUR_ROWS, 15);
-    show(b"partition 16:", &FOUR_ROWS, 16);
-    show(b"partition 4294967295:", &FOUR_ROWS, 4294967295);
-    show(b"eight rows:", &EIGHT_AND_ONE, 2);
-    show(b"the ninth row of another:", &EIGHT_AND_ONE, 1);
-    show(b"the last 32 bytes:", &[0, 0xFFFFFFE0, 32, 1], 0);
-    show(b"the upper half:", &[0, 0x80000000, 0x80000000, 2], 0);
-    show(b"a row refused:", &[0, 0x20000000, 16, 1], 0);
-    show(b"a row refused, partition 16:", &[0, 0x20000000, 16, 1], 16);
+pub(crate) fn words() {
+    show_words(b"no rows:", &[], 0);
+    show_words(b"three rows of partition 0:", &FOUR_ROWS, 0);
+    show_words(b"one row of partition 1:", &FOUR_ROWS, 1);
+    show_words(b"none of partition 15:", &FOUR_ROWS, 15);
+    show_words(b"partition 16:", &FOUR_ROWS, 16);
+    show_words(b"partition 4294967295:", &FOUR_ROWS, 4294967295);
+    show_words(b"eight rows:", &EIGHT_AND_ONE, 2);
+    show_words(b"the ninth row of another:", &EIGHT_AND_ONE, 1);
+    show_words(b"the last 32 bytes:", &[0, 0xFFFFFFE0, 32, 1], 0);
+    show_words(b"the upper half:", &[0, 0x80000000, 0x80000000, 2], 0);
+    show_words(b"a row refused:", &[0, 0x20000000, 16, 1], 0);
+    show_words(b"a row refused, partition 16:", &[0, 0x20000000, 16, 1], 16);
 }

@@ -2,8 +2,8 @@
 -- Assumes nothing.
 use Prim.Native.Nat.{_-_, _≤_}
 use borrow.Author.Needs.{needs}
-use Rattle.region_cases.proofs.put_slots.Statement.{statement}
-use Rattle.region_cases.proofs.put_slots.Tie as tie
+use Rattle.plan_cases.proofs.words.put_slots.Statement.{statement}
+use Rattle.plan_cases.proofs.words.put_slots.Tie as tie
 
 abbrev Inv-loop : tie.InvT-loop
 Inv-loop slots k₀ k = k ≤ 8
