@@ -5,9 +5,9 @@ use mathlib.Core.Bool.{Bool, true, false, and-eq-true-iff}
 use mathlib.Core.Logic.{_↔_}
 use mathlib.Core.Path.{_≡_, refl, sym, _∙_}
 use Prim.Native.Nat.{ℕ, suc, _+_, _<_}
-use native.Mathlib.Decide.{ℕ-discrete}
+use native.Mathlib.Decide.{decLt, ℕ-discrete}
 use native.Mathlib.Omega.{arith}
-use borrow.Author.Tests.{eq-eqb, ne-eqb, eqb-true, lt-ltb, le-ltb}
+use borrow.Author.Tests.{eq-eqb, eqb-true, lt-ltb, le-ltb}
 use Rattle.refusal.specs.declared.Verdict.the-variants.{Accepted}
 use Rattle.timeline.specs.Windows.{Holds, nextWindow, nextTick}
 use Rattle.timeline.proofs.Laws.{exactly-one, share-no-tick, next-holds, next-is-window}
@@ -187,11 +187,9 @@ module _ (s : Switcher) (h : Inv s) where
   next-is : nextOf (s .cur) ≡ nextWindow 4 (s .cur)
   unfolding nextOf nextWindow
   next-is =
-      elim (ℕ-discrete (suc (s .cur)) 4) [
-        | yes last ↦ rw (eq-eqb (suc (s .cur)) 4 last, le-ltb (s .cur) 3 (omega arith))
-        | no more ↦
-            let k : s .cur < 4 = h .cur-is-window in
-            rw (ne-eqb (suc (s .cur)) 4 more, lt-ltb (s .cur) 3 (omega arith)) (omega arith)
+      elim (decLt (suc (s .cur)) 4) [
+        | yes more ↦ rw (lt-ltb (suc (s .cur)) 4 more, lt-ltb (s .cur) 3 (omega arith)) (omega arith)
+        | no last ↦ rw (le-ltb (suc (s .cur)) 4 (omega arith), le-ltb (s .cur) 3 (omega arith))
       ]
 
   -- document 01: the mark is true after a successful `mark_resumed`

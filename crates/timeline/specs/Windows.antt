@@ -3,7 +3,7 @@
 use mathlib.Core.Bool.{Bool, cond, _&&_}
 use mathlib.Core.Path.{_≡_}
 use Prim.Native.Nat.{ℕ, zero, suc, _+_, _≤_, _<_}
-use lib.Dec.{leb, ltb, eqb}
+use lib.Dec.{leb, ltb}
 
 pub record Follow (n : ℕ) (offset budget : ℕ → ℕ) (frameLength : ℕ) : Type 0 where
   pub one-at-least : 0 < n
@@ -34,8 +34,8 @@ windowAt (suc n) offset budget t = cond (holdsb offset budget n t) n (windowAt n
 
 -- the window after i, window 0 after the last
 unfoldable pub nextWindow : ℕ → ℕ → ℕ
-nextWindow n i = cond (eqb (suc i) n) 0 (suc i)
+nextWindow n i = cond (ltb (suc i) n) (suc i) 0
 
 -- the tick after t, 0 after the frame's end
 unfoldable pub nextTick : ℕ → ℕ → ℕ
-nextTick frameLength t = cond (eqb (t + 1) frameLength) 0 (t + 1)
+nextTick frameLength t = cond (ltb (t + 1) frameLength) (t + 1) 0
