@@ -1,0 +1,13 @@
+pub mod Answers
+pub mod Cases
+pub mod EqualLaws
+pub mod Exact
+pub mod Fits
+pub mod GuardLaws
+pub mod HistoryLaws
+pub mod Preserved
+pub mod MachineLaws
+pub mod NumbersLaws
+pub mod Reach
+pub mod StateLaws
+pub mod StepLaws

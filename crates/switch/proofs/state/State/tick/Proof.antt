@@ -1,0 +1,60 @@
+-- `tick` meets its contract: the guard's refusal, or the step.
+-- Assumes nothing.
+use borrow.Author.Needs.{needs}
+use Rattle.switch.specs.Machine.{refusedAnswer}
+use Rattle.switch.specs.Guard.{guardOf}
+use Rattle.plan.proofs.AcceptedLaws.{accepted-all}
+use Rattle.switch.proofs.MachineLaws.{plan-accepted, tick-refused, tick-accepted}
+use Rattle.plan.specs.Plan.{Plan, planOf}
+use Rattle.refusal.specs.declared.Verdict.the-variants.{Accepted}
+use mathlib.Core.Path.{_≡_, sym, ap, _∙_}
+use Rattle.switch.proofs.state.State.tick.Statement.{statement}
+use Rattle.switch.proofs.state.State.tick.Tie as tie
+
+guard-requires : tie.Need-guard-requires
+guard-requires c κs = search needs
+
+enum-told : tie.Need-enum-told
+enum-told c = search needs
+
+enum-told-2 : tie.Need-enum-told-2
+enum-told-2 c = search needs
+
+refused-requires : tie.Need-refused-requires
+refused-requires c κs = search needs
+
+abbrev plan : tie.Start → Plan
+plan c = planOf (c .args .frame) (c .args .windows .now) (c .args .rows .now)
+
+-- the guard let the state in
+let-in : (c : tie.After-enum-told) → guardOf (plan (c .before .before .before .before .before)) (c .before .before .before .before .before .args .self) ≡ Accepted
+let-in c = sym (c .before .before .guard .ensures) ∙ c .enum-told .given .1
+
+returns : tie.Need-returns
+returns c =
+    let told = c .before .enum-told2 .given in
+    c .refused .ensures ∙ ap (refusedAnswer _) (told .1) ∙ sym (tick-refused _ _ _ (told .0 .0) (sym (c .before .before .before .guard .ensures) ∙ told .1))
+
+cast-count : tie.Need-cast-count
+cast-count c =
+    let a = accepted-all (plan (c .before .before .before .before .before)) (plan-accepted _ _ (let-in c)) .counts in
+    search needs
+
+tick-move-requires : tie.Need-tick-move-requires
+tick-move-requires c κs = search needs
+
+returns-2 : tie.Need-returns-2
+returns-2 c = c .tick-move .ensures ∙ sym (tick-accepted _ _ _ (let-in (c .before)))
+
+pub tick-spec : {M : Type 1} → statement M
+tick-spec =
+    tie.close
+    (tie.spec
+    guard-requires
+    enum-told
+    enum-told-2
+    refused-requires
+    returns
+    cast-count
+    tick-move-requires
+    returns-2)
