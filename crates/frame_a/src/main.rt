@@ -1,5 +1,7 @@
 // Frame A of document 01: the check's verdict, and the window at ticks 9, 10, 49 and 50; the region words of partition 1, for a row of
-// 1024 writable bytes. Then the same frame with budget 0 in window 2.
+// 1024 writable bytes; the machine from its cold start to a stop. Then the same frame with budget 0 in window 2.
+mod steps;
+
 use plan::Frame;
 use plan::PartitionNo;
 use refusal::Verdict;
@@ -76,5 +78,6 @@ fn main() {
     print_window(49);
     print_window(50);
     print_words();
+    steps::print_steps();
     print_check(b"budget 0 in window 2\t", &ONE_BUDGET_ZERO);
 }
