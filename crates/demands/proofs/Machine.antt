@@ -8,12 +8,12 @@ use mathlib.Core.Path.{_≡_, refl, sym, ap, _∙_, subst}
 use Prim.Native.Nat.{ℕ, _+_}
 use native.Mathlib.Omega.{arith}
 use Rattle.refusal.specs.declared.Refusal.the-variants.{Stopped as MachineStopped}
-use Rattle.refusal.specs.declared.Verdict.the-variants.{Refused}
+use Rattle.refusal.specs.declared.Verdict.the-variants.{Accepted, Refused}
 use Rattle.timeline.specs.Windows.{Holds}
 use Rattle.timeline.proofs.Laws.{share-no-tick}
 use Rattle.plan.specs.declared.PartitionNo.{PartitionNo}
 use Rattle.plan.specs.Plan.{Plan, offsetOf, budgetOf}
-use Rattle.plan.specs.Accepted.{Accepted}
+use Rattle.plan.specs.Accepted as plan
 use Rattle.plan.proofs.LookupLaws.{follow}
 use Rattle.switch.specs.declared.call.Call.{Call}
 use Rattle.switch.specs.declared.call.Call.the-variants.{None, Save, Swap, Resume as ResumeCall}
@@ -28,13 +28,13 @@ use Rattle.switch.specs.Numbers.{callWords}
 use Rattle.switch.specs.Step.{timetableOf, owner}
 use Rattle.switch.specs.Machine.{refusedAnswer, coldOf}
 use Rattle.switch.specs.Reached.{Event, tick, status}
-use Rattle.switch.specs.History.{called, answered, History, answerOf, start, goOn, next, since, history, openCall}
+use Rattle.switch.specs.History.{called, answered, History, answerOf, heard, start, goOn, next, since, history, openCall}
 use Rattle.switch.proofs.Cases.{TickCase, window-goes-on, window-ends, wrong-tick, tick-in-a-switch, tick-too-late, tick-case, StatusCase, saved, programmed, runs-again, bad-status, status-unasked-for, status-too-late, status-case}
 use Rattle.switch.proofs.Fits.{FitsPhase, Fits}
 use Rattle.switch.proofs.Answers.{too-late, on-tick, on-status, unasked, refused-not-counted, zero-swaps, zero-resumes, zero-runs}
 use Rattle.switch.proofs.EqualLaws.{same-history}
 use Rattle.switch.proofs.HistoryLaws.{TalkOf, Inv, since-on, start-phase, start-is, start-inv, next-inv, history-inv}
-use Rattle.demands.specs.Machine.{Stopped, Runs, Open, right, Fault, FirstFault, causeOf, entered, Kept, StopsExactly, StaysStopped, ownerNo, Begins, RunsOrWaits, RightTick, ZeroGoesOn, TwoZeros, ThreeZeros, Running, Demand3, RowsDoNotMatter}
+use Rattle.demands.specs.Machine.{Stopped, Runs, Open, right, Fault, FirstFault, causeOf, Kept, StopsExactly, StaysStopped, ownerNo, Begins, RunsOrWaits, RightTick, ZeroGoesOn, TwoZeros, ThreeZeros, Running, Demand3, RowsDoNotMatter}
 
 -- the call of a phase
 abbrev callAt : Plan → History → Stage → Call
@@ -49,11 +49,11 @@ apart e = ap (λ (c : Call). callWords c .number) e
 same-partition : {c d : Call} → c ≡ d → {q r : PartitionNo} → callWords c .partition ≡ q .0 → callWords d .partition ≡ r .0 → q ≡ r
 same-partition e {q} {r} is also = λ k. record { 0 = (sym is ∙ ap (λ (c : Call). callWords c .partition) e ∙ also) k }
 
-module _ (p : Plan) (a : Accepted p) where
+module _ (p : Plan) (a : plan.Accepted p) where
   data Outcome (h : History) (e : Event) : Type 0 where
     at-fault : (stage : Stage) → h .state .phase ≡ At stage → Fault p h e
         → next p h e .state ≡ stopped (h .state) stage (causeOf (callOpen stage) e) → next p h e .taken ≡ h .taken
-        → next p h e .calls ≡ entered e (h .calls) → Outcome h e
+        → next p h e .calls ≡ heard e Accepted (h .calls) → Outcome h e
     fine : (Stopped h → ⊥) → (Fault p h e → ⊥) → (Stopped (next p h e) → ⊥) → Outcome h e
     late : Stopped h → next p h e ≡ h → Outcome h e
 
@@ -86,7 +86,7 @@ module _ (p : Plan) (a : Accepted p) where
     -- an event that stops the machine
     stops : (e : Event) (stage : Stage) {to : Answer} → h .state .phase ≡ At stage → Fault p h e → answerOf p (h .state) e ≡ to
         → to .state ≡ stopped (h .state) stage (causeOf (callOpen stage) e) → goOn h e to .taken ≡ h .taken
-        → goOn h e to .calls ≡ entered e (h .calls) → Outcome h e
+        → goOn h e to .calls ≡ heard e Accepted (h .calls) → Outcome h e
     stops e stage at fault says to kept quiet =
         at-fault stage at fault (ap (λ (x : Answer). x .state) says ∙ to) (ap (λ (x : Answer). goOn h e x .taken) says ∙ kept)
         (ap (λ (x : Answer). goOn h e x .calls) says ∙ quiet)

@@ -6,11 +6,11 @@ use mathlib.Core.Logic.{_⊎_}
 use mathlib.Core.Path.{_≡_}
 use Prim.Native.Nat.{ℕ, _+_, _%_}
 use Rattle.refusal.specs.declared.Refusal.the-variants.{Stopped as MachineStopped}
-use Rattle.refusal.specs.declared.Verdict.the-variants.{Refused}
+use Rattle.refusal.specs.declared.Verdict.the-variants.{Accepted, Refused}
 use Rattle.timeline.specs.Windows.{OnlyWindow, nextWindow}
 use Rattle.plan.specs.declared.PartitionNo.{PartitionNo}
 use Rattle.plan.specs.Plan.{Plan, endOf, frameLength, windowCount, windowOf, offsetOf, budgetOf}
-use Rattle.plan.specs.Accepted.{Accepted}
+use Rattle.plan.specs.Accepted as plan
 use Rattle.plan.specs.Equal.{EqualBut}
 use Rattle.switch.specs.declared.call.Call.the-variants.{None, Save, Swap, Resume}
 use Rattle.switch.specs.declared.state.Stage.{Stage}
@@ -20,7 +20,7 @@ use Rattle.switch.specs.declared.state.Phase.the-variants.{At}
 use Rattle.switch.specs.State.{cold, stopped, callOpen, runs, isStopped}
 use Rattle.switch.specs.Machine.{refusedAnswer}
 use Rattle.switch.specs.Reached.{Event, tick, status}
-use Rattle.switch.specs.History.{Entry, called, answered, History, answerOf, next, since, history, openCall}
+use Rattle.switch.specs.History.{Entry, called, answered, History, answerOf, heard, next, since, history, openCall}
 
 abbrev pub Stopped : History → Type 0
 Stopped h = isStopped (h .state .phase) ≡ true
@@ -56,16 +56,12 @@ causeOf false (tick t) = WrongTick t
 causeOf true (tick t) = TickInSwitch t
 causeOf in-a-switch (status word) = BadStatus word
 
-abbrev pub entered : Event → List Entry → List Entry
-entered (tick t) calls = calls
-entered (status word) calls = answered word ∷ calls
-
 pub record Kept (before : History) (e : Event) (after : History) : Type 0 where
   pub stage : Stage
   pub came-in : before .state .phase ≡ At stage
   pub state : after .state ≡ stopped (before .state) stage (causeOf (callOpen stage) e)
   pub not-taken : after .taken ≡ before .taken
-  pub no-call : after .calls ≡ entered e (before .calls)
+  pub no-call : after .calls ≡ heard e Accepted (before .calls)
 
 -- "... and at nothing else"
 pub record StopsExactly (p : Plan) (events : List Event) : Type 0 where
@@ -137,10 +133,10 @@ pub record Sentences (p : Plan) : Type 0 where
   pub running : (events : List Event) → Runs (history p events) → Running p (history p events)
 
 abbrev pub Demand3 : Type 0
-Demand3 = (p : Plan) → Accepted p → Sentences p
+Demand3 = (p : Plan) → plan.Accepted p → Sentences p
 
 -- "Two accepted plans equal in windows, frame length and, in order, all rows but those of partition q, given the same events, make the same
 -- calls and states" (document 01, "Region words")
 abbrev pub RowsDoNotMatter : Type 0
 RowsDoNotMatter =
-    (q : ℕ) (p p′ : Plan) → Accepted p → Accepted p′ → EqualBut q p p′ → (events : List Event) → history p events ≡ history p′ events
+    (q : ℕ) (p p′ : Plan) → plan.Accepted p → plan.Accepted p′ → EqualBut q p p′ → (events : List Event) → history p events ≡ history p′ events

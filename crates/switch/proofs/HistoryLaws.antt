@@ -1,7 +1,6 @@
 -- What holds after a cold start and any events: the state is one that fits, its due tick is N modulo the frame length, and the last
 -- calls are those of its phase.
 -- Assumes nothing.
-use mathlib.Core.Bool.{cond}
 use mathlib.Core.List.{List, [], _∷_, _++_}
 use mathlib.Core.Path.{_≡_, refl, sym, ap, _∙_, subst}
 use Prim.Native.Nat.{ℕ, _+_, _%_}
@@ -25,7 +24,7 @@ use Rattle.switch.specs.State.{cold, isStopped}
 use Rattle.switch.specs.Step.{timetableOf, owner, coldMove, tickMove, statusMove}
 use Rattle.switch.specs.Machine.{coldOf, tickOf, statusOf}
 use Rattle.switch.specs.Reached.{Event, tick, status, moveOf, leads}
-use Rattle.switch.specs.History.{Entry, called, answered, History, answerOf, start, goOn, next, since, history}
+use Rattle.switch.specs.History.{Entry, called, answered, History, answerOf, counted, start, goOn, next, since, history}
 use Rattle.switch.proofs.MachineLaws.{cold-accepted}
 use Rattle.switch.proofs.Cases.{TickCase, window-goes-on, window-ends, wrong-tick, tick-in-a-switch, tick-too-late, tick-case, StatusCase, saved, programmed, runs-again, bad-status, status-unasked-for, status-too-late, status-case, onward}
 use Rattle.switch.proofs.Fits.{Fits}
@@ -84,7 +83,7 @@ module _ (p : Plan) (a : plan.Accepted p) where
     tick-inv t (window-goes-on e due more to) =
         accepts (tick t) (on-tick p a (h .state) (i .fit) e t to) to
         (next-due t (h .taken) (due ∙ i .in-time)
-        ∙ ap (λ (phase : Phase). cond (isStopped phase) (h .taken) (h .taken + 1) % frameLength p) (sym e))
+        ∙ ap (λ (phase : Phase). counted (tick t) Accepted (isStopped phase) (h .taken) % frameLength p) (sym e))
         (subst (TalkOf p (onward (timetableOf p) (h .state) t) (h .calls)) (sym e) (subst (TalkOf p (h .state) (h .calls)) e (i .talk)))
     tick-inv t (window-ends e due last to) =
         accepts (tick t) (on-tick p a (h .state) (i .fit) e t to) to (next-due t (h .taken) (due ∙ i .in-time)) (h .calls, refl)
