@@ -2,9 +2,7 @@
 .PHONY: run test
 
 run:
-	@mkdir -p target
-	@rt check frame_a >target/run.log 2>&1 || { cat target/run.log; exit 1; }
-	@target/bin/frame_a
+	@./run
 
 test:
 	@.ci/run

@@ -3,6 +3,7 @@
 
 #[path = "../tests/host.rs"]
 mod host;
+#[allow(dead_code)] // each benchmark takes what it compares
 mod ordinary;
 
 use std::hint::black_box;

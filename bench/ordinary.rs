@@ -81,3 +81,27 @@ pub fn words(length: u32, windows: &[u32], rows: &[u32], partition: u32) -> Resu
     }
     Ok(slots)
 }
+
+/// The due tick after a cold start and so many events, each call answered with zero and each tick the due one. The plan is checked at every event,
+/// and the state is tested as an ordinary switcher would.
+pub fn driven(length: u32, windows: &[u32], rows: &[u32], events: u32) -> u32 {
+    let count = windows.len() / 3;
+    let (mut current, mut target, mut due, mut stage) = (0, 0, 0, 2);
+    for _ in 0..events {
+        if check(std::hint::black_box(length), windows, rows).is_err() || target >= count || due >= length {
+            return due;
+        }
+        match stage {
+            0 => {
+                let last = u64::from(due) + 1 == u64::from(windows[current * 3 + 1]) + u64::from(windows[current * 3 + 2]);
+                due = if due + 1 < length { due + 1 } else { 0 };
+                if last {
+                    (stage, target) = (1, if current + 1 < count { current + 1 } else { 0 });
+                }
+            }
+            3 => (stage, current) = (0, target),
+            _ => stage += 1,
+        }
+    }
+    due
+}

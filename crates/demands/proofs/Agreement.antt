@@ -8,18 +8,20 @@ use native.Mathlib.Decide.{decLt}
 use native.Mathlib.Omega.{arith}
 use Rattle.refusal.specs.declared.Verdict.{Verdict}
 use Rattle.refusal.specs.declared.Verdict.the-variants.{Accepted, Refused}
-use Rattle.refusal.proofs.First.{never-both, both-accept}
+use Rattle.refusal.proofs.First.{never-both}
 use Rattle.timeline.specs.Windows.{Follow}
 use Rattle.timeline.proofs.Laws.{follow-same, window-at-same}
-use Rattle.major_frame.specs.declared.frame.MajorFrame.{MajorFrame}
+use Rattle.major_frame.specs.declared.MajorFrame.{MajorFrame}
 use Rattle.major_frame.specs.Frame.{partitionAt, offsetAt, budgetAt, frameVerdict, currentWindow}
-use Rattle.major_frame.specs.Frame as port
 use Rattle.major_frame.proofs.FrameLaws as port-laws
-use Rattle.plan.specs.Plan.{offsetOf, budgetOf, ownerOf, rowsOf}
+use Rattle.plan.specs.Plan.{offsetOf, budgetOf, ownerOf}
+use Rattle.rows.specs.Rows.{rowsOf}
 use Rattle.plan.specs.Faults.{verdictOf}
-use Rattle.plan.specs.Lookup.{lookupVerdict, lookupOf}
-use Rattle.plan.proofs.AcceptedLaws.{accepted-all, all-accepted}
-use Rattle.plan.proofs.LookupLaws as plan-laws
+use Rattle.lookup.specs.Lookup.{lookupOf}
+use Rattle.timeline.proofs.Lookup.{lookup-accepts}
+use Rattle.accepted.proofs.FollowLaws.{follow}
+use Rattle.accepted.proofs.AcceptedLaws.{accepted-all, all-accepted}
+use Rattle.lookup.proofs.LookupLaws as plan-laws
 use Rattle.demands.specs.Agreement.{windowsOf, asPlan, OwnersInRange, Agreement}
 
 -- the same numbers, window by window
@@ -43,7 +45,7 @@ module _ (f : MajorFrame) (owners : OwnersInRange f) where
       port-laws.inv-accepted f
       (port-laws.unfollow f
       (follow-same (λ i h. same f i h .offset) (λ i h. same f i h .budget)
-      (plan-laws.follow (asPlan f) (accepted-all (asPlan f) e))))
+      (follow (asPlan f) (accepted-all (asPlan f) e))))
 
   to-plan : frameVerdict f ≡ Accepted → verdictOf (asPlan f) ≡ Accepted
   unfolding windowsOf rowsOf
@@ -86,11 +88,10 @@ module _ (f : MajorFrame) (owners : OwnersInRange f) where
   same-window t (Refused r) Accepted ev ew = absurd (never-both (sym (to-plan ew) ∙ ev))
 
   same-verdict : (t : ℕ) → (lookupOf (asPlan f) t .verdict ≡ Accepted) ↔ (currentWindow f t .verdict ≡ Accepted)
-  unfolding lookupVerdict port.lookupVerdict
   same-verdict t =
       rw (plan-laws.lookup-verdict (asPlan f) t, port-laws.lookup-verdict f t) (
-        λ e. let (v, past) = both-accept _ _ .0 e in both-accept _ _ .1 (to-port v, past),
-        λ e. let (v, past) = both-accept _ _ .0 e in both-accept _ _ .1 (to-plan v, past),
+        λ e. let (v, below) = lookup-accepts _ _ t .0 e in lookup-accepts _ _ t .1 (to-port v, below),
+        λ e. let (v, below) = lookup-accepts _ _ t .0 e in lookup-accepts _ _ t .1 (to-plan v, below),
       )
 
 pub agreement : Agreement

@@ -1,97 +1,144 @@
--- Each event either is refused, or stops the machine, or leaves it going: `outcome`, by the cases of a step and what holds of any history
+-- Each event either is refused, or stops the machine, or leaves it going: `what-it-does`, by the cases of a step and what holds of any history
 -- (`Inv`, crate `switch`). The sentences on stops follow by induction on the events, the others from `Inv` alone.
 -- Assumes nothing.
 use mathlib.Core.Bool.{cond, not, Bool, true, false, true≢false, false≢true}
 use mathlib.Core.List.{List, [], _∷_, _++_, cons-ne-nil, head-eq-of-cons-eq, tail-eq-of-cons-eq}
-use mathlib.Core.Logic.{inl, inr}
+use mathlib.Core.Logic.{_↔_, inl, inr}
 use mathlib.Core.Path.{_≡_, refl, sym, ap, _∙_, subst}
 use Prim.Native.Nat.{ℕ, _+_}
 use native.Mathlib.Omega.{arith}
-use Rattle.refusal.specs.declared.Refusal.the-variants.{Stopped as MachineStopped}
-use Rattle.refusal.specs.declared.Verdict.the-variants.{Accepted, Refused}
+use Rattle.refusal.specs.declared.Refusal.the-variants.{MachineStopped}
+use Rattle.refusal.specs.declared.Verdict.the-variants.{Accepted}
+use Rattle.refusal.specs.Table.{outcome}
+use Rattle.refusal.proofs.Table.{same-outcome}
 use Rattle.timeline.specs.Windows.{Holds}
 use Rattle.timeline.proofs.Laws.{share-no-tick}
-use Rattle.plan.specs.declared.PartitionNo.{PartitionNo}
-use Rattle.plan.specs.Plan.{Plan, offsetOf, budgetOf}
-use Rattle.plan.specs.Accepted as plan
-use Rattle.plan.proofs.LookupLaws.{follow}
-use Rattle.switch.specs.declared.call.Call.{Call}
-use Rattle.switch.specs.declared.call.Call.the-variants.{None, Save, Swap, Resume as ResumeCall}
-use Rattle.switch.specs.declared.state.Stage.{Stage}
-use Rattle.switch.specs.declared.state.Stage.the-variants.{Running as RunningStage, SaveCtx, ProgramRegions, Resume}
-use Rattle.switch.specs.declared.state.Phase.{Phase}
-use Rattle.switch.specs.declared.state.Phase.the-variants.{At, Stopped as StoppedPhase}
-use Rattle.switch.specs.declared.state.State.{State}
-use Rattle.switch.specs.declared.machine.Answer.{Answer}
-use Rattle.switch.specs.State.{stopped, callOpen, runs, isStopped}
-use Rattle.switch.specs.Numbers.{callWords}
-use Rattle.switch.specs.Step.{timetableOf, owner}
-use Rattle.switch.specs.Machine.{refusedAnswer, coldOf}
-use Rattle.switch.specs.Reached.{Event, tick, status}
-use Rattle.switch.specs.History.{called, answered, History, answerOf, heard, start, goOn, next, since, history, openCall}
-use Rattle.switch.proofs.Cases.{TickCase, window-goes-on, window-ends, wrong-tick, tick-in-a-switch, tick-too-late, tick-case, StatusCase, saved, programmed, runs-again, bad-status, status-unasked-for, status-too-late, status-case}
+use Rattle.plan.specs.Plan.{Plan, ownerOf, offsetOf, budgetOf}
+use Rattle.plan.specs.Faults.{verdictOf}
+use Rattle.accepted.specs.Accepted as plan
+use Rattle.accepted.proofs.AcceptedLaws.{accepted-all, all-accepted}
+use Rattle.accepted.proofs.FollowLaws.{follow}
+use Rattle.region.proofs.Reach.{separation}
+use Rattle.protocol.specs.declared.CallWords.{CallWords}
+use Rattle.protocol.specs.declared.Stage.{Stage}
+use Rattle.protocol.specs.declared.Stage.the-variants.{Running, SaveCtx, ProgramRegions, Resume}
+use Rattle.protocol.specs.declared.Cause.{Cause}
+use Rattle.protocol.specs.declared.Cause.the-variants.{WrongTick, TickInSwitch, BadStatus}
+use Rattle.protocol.specs.declared.Phase.{Phase}
+use Rattle.protocol.specs.declared.Phase.the-variants.{At, Stopped}
+use Rattle.protocol.specs.Phase.{callOpen, runs, isStopped}
+use Rattle.protocol.specs.Numbers.{noCall, saveFor, swapFor, resumeFor, callWords, stageNumber, phaseOf, phaseWords}
+use Rattle.switch.specs.declared.State.{State}
+use Rattle.switch.specs.declared.Answer.{Answer}
+use Rattle.switch.specs.State.{inPhase, stopped}
+use Rattle.switch.specs.Step.{timetableOf, owner, coldMove}
+use Rattle.switch.specs.Cases.{TickCase, window-goes-on, window-ends, wrong-tick, tick-in-a-switch, tick-too-late, StatusCase, saved, programmed, runs-again, bad-status, status-unasked-for, status-too-late}
+use Rattle.switch.specs.Machine.{coldOf}
+use Rattle.switch.specs.Reached.{Event, tick, status, wordOf}
+use Rattle.switch.specs.History.{machineOf, called, answered, History, answerOf, begin, goOn, next, since, history, openCall}
+use Rattle.switch.proofs.Cases.{tick-case, status-case}
 use Rattle.switch.proofs.Fits.{FitsPhase, Fits}
 use Rattle.switch.proofs.Answers.{too-late, on-tick, on-status, unasked, refused-not-counted, zero-swaps, zero-resumes, zero-runs}
 use Rattle.switch.proofs.EqualLaws.{same-history}
+use Rattle.switch.proofs.MachineLaws.{cold-accepted}
 use Rattle.switch.proofs.HistoryLaws.{TalkOf, Inv, since-on, start-phase, start-is, start-inv, next-inv, history-inv}
-use Rattle.demands.specs.Machine.{Stopped, Runs, Open, right, Fault, FirstFault, causeOf, Kept, StopsExactly, StaysStopped, ownerNo, Begins, RunsOrWaits, RightTick, ZeroGoesOn, TwoZeros, ThreeZeros, Running, Demand3, RowsDoNotMatter}
+use Rattle.demands.specs.Machine.{CheckAccepts, phaseNumber, Runs, HasStopped, Open, right, Fault, FirstFault, causeNumber, entered, Kept, StopsExactly, RefusedWith, StaysStopped, Begins, RunsOrWaits, RightTick, ZeroGoesOn, TwoZeros, ThreeZeros, WhileRunning, Demand3, RowsDoNotMatter}
+
+-- the phases by their numbers
+pub stopped-number : (phase : Phase) → (phaseWords phase .phase ≡ 4) ↔ (isStopped phase ≡ true)
+stopped-number (At Running) = (λ e. absurd (omega arith), λ e. absurd (false≢true e))
+stopped-number (At SaveCtx) = (λ e. absurd (omega arith), λ e. absurd (false≢true e))
+stopped-number (At ProgramRegions) = (λ e. absurd (omega arith), λ e. absurd (false≢true e))
+stopped-number (At Resume) = (λ e. absurd (omega arith), λ e. absurd (false≢true e))
+stopped-number (Stopped stage (WrongTick t)) = (λ e. refl, λ e. refl)
+stopped-number (Stopped stage (TickInSwitch t)) = (λ e. refl, λ e. refl)
+stopped-number (Stopped stage (BadStatus word)) = (λ e. refl, λ e. refl)
+
+pub running-number : (phase : Phase) → (phaseWords phase .phase ≡ 0) ↔ (runs phase ≡ true)
+running-number (At Running) = (λ e. refl, λ e. refl)
+running-number (At SaveCtx) = (λ e. absurd (omega arith), λ e. absurd (false≢true e))
+running-number (At ProgramRegions) = (λ e. absurd (omega arith), λ e. absurd (false≢true e))
+running-number (At Resume) = (λ e. absurd (omega arith), λ e. absurd (false≢true e))
+running-number (Stopped stage (WrongTick t)) = (λ e. absurd (omega arith), λ e. absurd (false≢true e))
+running-number (Stopped stage (TickInSwitch t)) = (λ e. absurd (omega arith), λ e. absurd (false≢true e))
+running-number (Stopped stage (BadStatus word)) = (λ e. absurd (omega arith), λ e. absurd (false≢true e))
+
+abbrev Stops : History → Type 0
+Stops h = isStopped (h .state .phase) ≡ true
+
+-- the cause that a stop keeps, and its number
+abbrev causeOf : (in-a-switch : Bool) → Event → Cause
+causeOf false (tick t) = WrongTick t
+causeOf true (tick t) = TickInSwitch t
+causeOf in-a-switch (status word) = BadStatus word
+
+kept-words : (stage : Stage) (e : Event)
+    → phaseWords (Stopped stage (causeOf (callOpen stage) e)) ≡ phaseOf 4 (stageNumber stage) (causeNumber (stageNumber stage) e) (wordOf e)
+kept-words Running (tick t) = refl
+kept-words Running (status word) = refl
+kept-words SaveCtx (tick t) = refl
+kept-words SaveCtx (status word) = refl
+kept-words ProgramRegions (tick t) = refl
+kept-words ProgramRegions (status word) = refl
+kept-words Resume (tick t) = refl
+kept-words Resume (status word) = refl
 
 -- the call of a phase
-abbrev callAt : Plan → History → Stage → Call
-callAt p h RunningStage = None
-callAt p h SaveCtx = Save (owner (p .windows) (h .state .current))
-callAt p h ProgramRegions = Swap (owner (p .windows) (h .state .target))
-callAt p h Resume = ResumeCall (owner (p .windows) (h .state .target))
+abbrev callAt : Plan → History → Stage → CallWords
+callAt p h Running = noCall
+callAt p h SaveCtx = saveFor (owner (p .windows) (h .state .current) .0)
+callAt p h ProgramRegions = swapFor (owner (p .windows) (h .state .target) .0)
+callAt p h Resume = resumeFor (owner (p .windows) (h .state .target) .0)
 
-apart : {c d : Call} → c ≡ d → callWords c .number ≡ callWords d .number
-apart e = ap (λ (c : Call). callWords c .number) e
+apart : {c d : CallWords} → c ≡ d → c .number ≡ d .number
+apart e = ap (λ (c : CallWords). c .number) e
 
-same-partition : {c d : Call} → c ≡ d → {q r : PartitionNo} → callWords c .partition ≡ q .0 → callWords d .partition ≡ r .0 → q ≡ r
-same-partition e {q} {r} is also = λ k. record { 0 = (sym is ∙ ap (λ (c : Call). callWords c .partition) e ∙ also) k }
+same-partition : {c d : CallWords} → c ≡ d → c .partition ≡ d .partition
+same-partition e = ap (λ (c : CallWords). c .partition) e
 
-module _ (p : Plan) (a : plan.Accepted p) where
+module _ (p : Plan) (a : plan.AcceptedIf p) where
   data Outcome (h : History) (e : Event) : Type 0 where
     at-fault : (stage : Stage) → h .state .phase ≡ At stage → Fault p h e
-        → next p h e .state ≡ stopped (h .state) stage (causeOf (callOpen stage) e) → next p h e .taken ≡ h .taken
-        → next p h e .calls ≡ heard e Accepted (h .calls) → Outcome h e
-    fine : (Stopped h → ⊥) → (Fault p h e → ⊥) → (Stopped (next p h e) → ⊥) → Outcome h e
-    late : Stopped h → next p h e ≡ h → Outcome h e
+        → next (machineOf p) h e .state ≡ stopped (h .state) stage (causeOf (callOpen stage) e) → next (machineOf p) h e .taken ≡ h .taken
+        → next (machineOf p) h e .entries ≡ entered e (h .entries) → Outcome h e
+    fine : (Stops h → ⊥) → (Fault p h e → ⊥) → (Stops (next (machineOf p) h e) → ⊥) → Outcome h e
+    late : Stops h → next (machineOf p) h e ≡ h → Outcome h e
 
   module _ (h : History) (i : Inv p h) where
-    talks : (phase : Phase) → h .state .phase ≡ phase → TalkOf p (h .state) (h .calls) phase
-    talks phase e = subst (TalkOf p (h .state) (h .calls)) e (i .talk)
+    talks : (phase : Phase) → h .state .phase ≡ phase → TalkOf p (h .state) (h .entries) phase
+    talks phase e = subst (TalkOf p (h .state) (h .entries)) e (i .talk)
 
-    is-going : {stage : Stage} → h .state .phase ≡ At stage → Stopped h → ⊥
+    is-going : {stage : Stage} → h .state .phase ≡ At stage → Stops h → ⊥
     is-going e stop = true≢false (sym stop ∙ ap isStopped e)
 
     -- the call that is open, by the phase
-    open-call : (stage : Stage) → h .state .phase ≡ At stage → openCall (h .calls) ≡ callAt p h stage
-    open-call RunningStage e = ap openCall (talks (At RunningStage) e .1)
+    open-call : (stage : Stage) → h .state .phase ≡ At stage → openCall (h .entries) ≡ callAt p h stage
+    open-call Running e = ap openCall (talks (At Running) e .1)
     open-call SaveCtx e = ap openCall (talks (At SaveCtx) e .1)
     open-call ProgramRegions e = ap openCall (talks (At ProgramRegions) e .1)
     open-call Resume e = ap openCall (talks (At Resume) e .1)
 
-    not-open : h .state .phase ≡ At RunningStage → Open h → ⊥
-    not-open e waits = waits (open-call RunningStage e)
+    not-open : h .state .phase ≡ At Running → Open h → ⊥
+    not-open e waits = waits (open-call Running e)
 
     is-open : (stage : Stage) → h .state .phase ≡ At stage → callOpen stage ≡ true → Open h
-    is-open RunningStage e waits none = false≢true waits
+    is-open Running e waits none = false≢true waits
     is-open SaveCtx e waits none = omega (arith, apart (sym (open-call SaveCtx e) ∙ none))
     is-open ProgramRegions e waits none = omega (arith, apart (sym (open-call ProgramRegions e) ∙ none))
     is-open Resume e waits none = omega (arith, apart (sym (open-call Resume e) ∙ none))
 
-    goes : (e : Event) {to : Answer} → answerOf p (h .state) e ≡ to → isStopped (to .state .phase) ≡ false → Stopped (next p h e) → ⊥
+    goes : (e : Event) {to : Answer} → answerOf p (h .state) e ≡ to → isStopped (to .state .phase) ≡ false → Stops (next (machineOf p) h e) → ⊥
     goes e says go stop = false≢true (sym go ∙ sym (ap (λ (x : Answer). isStopped (x .state .phase)) says) ∙ stop)
 
     -- an event that stops the machine
     stops : (e : Event) (stage : Stage) {to : Answer} → h .state .phase ≡ At stage → Fault p h e → answerOf p (h .state) e ≡ to
         → to .state ≡ stopped (h .state) stage (causeOf (callOpen stage) e) → goOn h e to .taken ≡ h .taken
-        → goOn h e to .calls ≡ heard e Accepted (h .calls) → Outcome h e
+        → goOn h e to .entries ≡ entered e (h .entries) → Outcome h e
     stops e stage at fault says to kept quiet =
         at-fault stage at fault (ap (λ (x : Answer). x .state) says ∙ to) (ap (λ (x : Answer). goOn h e x .taken) says ∙ kept)
-        (ap (λ (x : Answer). goOn h e x .calls) says ∙ quiet)
+        (ap (λ (x : Answer). goOn h e x .entries) says ∙ quiet)
 
-    no-wrong : (t : ℕ) → h .state .phase ≡ At RunningStage → t ≡ h .state .due → Fault p h (tick t) → ⊥
+    no-wrong : (t : ℕ) → h .state .phase ≡ At Running → t ≡ h .state .due → Fault p h (tick t) → ⊥
     no-wrong t e due (inl waits) = not-open e waits
     no-wrong t e due (inr wrong) = wrong (due ∙ i .in-time)
 
@@ -100,7 +147,7 @@ module _ (p : Plan) (a : plan.Accepted p) where
         fine (is-going e) (no-wrong t e due) (goes (tick t) (on-tick p a (h .state) (i .fit) e t to) (ap isStopped e))
     tick-outcome t (window-ends e due last to) = fine (is-going e) (no-wrong t e due) (goes (tick t) (on-tick p a (h .state) (i .fit) e t to) refl)
     tick-outcome t (wrong-tick e wrong to) =
-        stops (tick t) RunningStage e (inr (λ same. wrong (same ∙ sym (i .in-time)))) (on-tick p a (h .state) (i .fit) e t to) refl refl refl
+        stops (tick t) Running e (inr (λ same. wrong (same ∙ sym (i .in-time)))) (on-tick p a (h .state) (i .fit) e t to) refl refl refl
     tick-outcome t (tick-in-a-switch stage e waits to) =
         stops (tick t) stage e (inl (is-open stage e waits)) (on-tick p a (h .state) (i .fit) e t to)
         (ap (λ (b : Bool). stopped (h .state) stage (causeOf b (tick t))) (sym waits))
@@ -125,26 +172,26 @@ module _ (p : Plan) (a : plan.Accepted p) where
     status-outcome word (status-too-late stage cause e to) =
         late (ap isStopped e) (refused-not-counted p h (status word) MachineStopped (ap (λ (x : Answer). x .verdict) (too-late p a (h .state) (i .fit) e (status word))))
 
-    outcome : (e : Event) → Outcome h e
-    outcome (tick t) = tick-outcome t (tick-case (timetableOf p) (h .state) t)
-    outcome (status word) = status-outcome word (status-case (p .windows) (h .state) word)
+    what-it-does : (e : Event) → Outcome h e
+    what-it-does (tick t) = tick-outcome t (tick-case (timetableOf p) (h .state) t)
+    what-it-does (status word) = status-outcome word (status-case (p .windows) (h .state) word)
 
   -- a stopped machine stays as it is
-  no-move : (h : History) (e : Event) → Stopped h → Outcome h e → next p h e ≡ h
+  no-move : (h : History) (e : Event) → Stops h → Outcome h e → next (machineOf p) h e ≡ h
   no-move h e stop (at-fault stage at fault to kept quiet) = absurd (true≢false (sym stop ∙ ap isStopped at))
   no-move h e stop (fine going safe go) = absurd (going stop)
   no-move h e stop (late also same) = same
 
-  no-more : (h : History) → Inv p h → Stopped h → (more : List Event) → since p h more ≡ h
+  no-more : (h : History) → Inv p h → Stops h → (more : List Event) → since (machineOf p) h more ≡ h
   no-more h i stop [] = refl
-  no-more h i stop (e ∷ more) = ap (λ (to : History). since p to more) (no-move h e stop (outcome h i e)) ∙ no-more h i stop more
+  no-more h i stop (e ∷ more) = ap (λ (to : History). since (machineOf p) to more) (no-move h e stop (what-it-does h i e)) ∙ no-more h i stop more
 
   nothing-before : (b : List Event) (e : Event) (c : List Event) → [] ≡ b ++ (e ∷ c) → ⊥
   nothing-before [] e c same = cons-ne-nil e c (sym same)
   nothing-before (x ∷ b) e c same = cons-ne-nil x (b ++ (e ∷ c)) (sym same)
 
   -- one event before, which is no fault
-  one-before : (h : History) (e : Event) {events : List Event} → (Fault p h e → ⊥) → FirstFault p (next p h e) events → FirstFault p h (e ∷ events)
+  one-before : (h : History) (e : Event) {events : List Event} → (Fault p h e → ⊥) → FirstFault p (machineOf p) (next (machineOf p) h e) events → FirstFault p (machineOf p) h (e ∷ events)
   one-before h e safe f =
       record {
         before = e ∷ f .before;
@@ -155,88 +202,99 @@ module _ (p : Plan) (a : plan.Accepted p) where
         none-before = earlier;
       }
     where
-      earlier : (b : List Event) (x : Event) (c : List Event) → e ∷ f .before ≡ b ++ (x ∷ c) → Fault p (since p h b) x → ⊥
+      earlier : (b : List Event) (x : Event) (c : List Event) → e ∷ f .before ≡ b ++ (x ∷ c) → Fault p (since (machineOf p) h b) x → ⊥
       earlier [] x c same fault = safe (subst (Fault p h) (sym (head-eq-of-cons-eq same)) fault)
       earlier (y ∷ b) x c same fault =
-          f .none-before b x c (tail-eq-of-cons-eq same) (subst (λ (z : Event). Fault p (since p (next p h z) b) x) (sym (head-eq-of-cons-eq same)) fault)
+          f .none-before b x c (tail-eq-of-cons-eq same) (subst (λ (z : Event). Fault p (since (machineOf p) (next (machineOf p) h z) b) x) (sym (head-eq-of-cons-eq same)) fault)
 
-  first-fault : (h : History) → Inv p h → (Stopped h → ⊥) → (events : List Event) → Stopped (since p h events) → FirstFault p h events
+  first-fault : (h : History) → Inv p h → (Stops h → ⊥) → (events : List Event) → Stops (since (machineOf p) h events) → FirstFault p (machineOf p) h events
   first-fault h i going [] stop = absurd (going stop)
   first-fault h i going (e ∷ events) stop =
-      of (outcome h i e) (λ go. first-fault (next p h e) (next-inv p a h i e) go events stop)
+      of (what-it-does h i e) (λ go. first-fault (next (machineOf p) h e) (next-inv p a h i e) go events stop)
     where
-      of : Outcome h e → ((Stopped (next p h e) → ⊥) → FirstFault p (next p h e) events) → FirstFault p h (e ∷ events)
+      of : Outcome h e → ((Stops (next (machineOf p) h e) → ⊥) → FirstFault p (machineOf p) (next (machineOf p) h e) events) → FirstFault p (machineOf p) h (e ∷ events)
       of (late stop to) rest = absurd (going stop)
       of (at-fault stage at fault to kept quiet) rest =
           record { before = []; event = e; after = events; in-order = refl; is-fault = fault; none-before = λ b x c same fault. nothing-before b x c same }
       of (fine going safe go) rest = one-before h e safe (rest go)
 
   -- the machine is stopped by it, and keeps it
-  kept-first : (h : History) → Inv p h → (Stopped h → ⊥) → (before : List Event) (event : Event) (after : List Event)
-      → Fault p (since p h before) event
-      → ((b : List Event) (e : Event) (c : List Event) → before ≡ b ++ (e ∷ c) → Fault p (since p h b) e → ⊥)
-      → Kept (since p h before) event (since p h (before ++ (event ∷ after)))
-  kept-first h i going [] event after fault none = of (outcome h i event)
+  kept-first : (h : History) → Inv p h → (Stops h → ⊥) → (before : List Event) (event : Event) (after : List Event)
+      → Fault p (since (machineOf p) h before) event
+      → ((b : List Event) (e : Event) (c : List Event) → before ≡ b ++ (e ∷ c) → Fault p (since (machineOf p) h b) e → ⊥)
+      → Kept (since (machineOf p) h before) event (since (machineOf p) h (before ++ (event ∷ after)))
+  kept-first h i going [] event after fault none = of (what-it-does h i event)
     where
-      of : Outcome h event → Kept h event (since p (next p h event) after)
+      of : Outcome h event → Kept h event (since (machineOf p) (next (machineOf p) h event) after)
       of (late stop to) = absurd (going stop)
       of (fine going safe go) = absurd (safe fault)
       of (at-fault stage at fault to kept quiet) =
-          let same = no-more (next p h event) (next-inv p a h i event) (ap (λ (s : State). isStopped (s .phase)) to) after in
+          let same = no-more (next (machineOf p) h event) (next-inv p a h i event) (ap (λ (s : State). isStopped (s .phase)) to) after in
+          let there = ap (λ (x : History). x .state) same ∙ to in
+          let phase = ap (λ (s : State). s .phase) there in
           record {
-            stage = stage;
-            came-in = at;
-            state = ap (λ (x : History). x .state) same ∙ to;
+            stage = stageNumber stage;
+            came-in = ap phaseWords at;
+            phase = ap phaseWords phase ∙ kept-words stage event;
+            nothing-else = there ∙ ap (inPhase (h .state)) (sym phase);
             not-taken = ap (λ (x : History). x .taken) same ∙ kept;
-            no-call = ap (λ (x : History). x .calls) same ∙ quiet;
+            no-call = ap (λ (x : History). x .entries) same ∙ quiet;
           }
   kept-first h i going (y ∷ before) event after fault none =
-      of (outcome h i y) (λ go. kept-first (next p h y) (next-inv p a h i y) go before event after fault (λ b e c same. none (y ∷ b) e c (ap (λ (l : List Event). y ∷ l) same)))
+      of (what-it-does h i y) (λ go. kept-first (next (machineOf p) h y) (next-inv p a h i y) go before event after fault (λ b e c same. none (y ∷ b) e c (ap (λ (l : List Event). y ∷ l) same)))
     where
       of : Outcome h y
-          → ((Stopped (next p h y) → ⊥) → Kept (since p (next p h y) before) event (since p (next p h y) (before ++ (event ∷ after))))
-          → Kept (since p (next p h y) before) event (since p (next p h y) (before ++ (event ∷ after)))
+          → ((Stops (next (machineOf p) h y) → ⊥) → Kept (since (machineOf p) (next (machineOf p) h y) before) event (since (machineOf p) (next (machineOf p) h y) (before ++ (event ∷ after))))
+          → Kept (since (machineOf p) (next (machineOf p) h y) before) event (since (machineOf p) (next (machineOf p) h y) (before ++ (event ∷ after)))
       of (late stop to) rest = absurd (going stop)
       of (at-fault stage at fault to kept quiet) rest = absurd (none [] y before refl fault)
       of (fine going safe go) rest = rest go
 
-  start-going : Stopped (start (coldOf p)) → ⊥
-  start-going stop = is-going (start (coldOf p)) (start-inv p a) (start-phase p a) stop
+  start-going : Stops (begin (coldOf p)) → ⊥
+  start-going stop = is-going (begin (coldOf p)) (start-inv p a) (start-phase p a) stop
 
-  pub stops-exactly : (events : List Event) → StopsExactly p events
+  pub stops-exactly : (events : List Event) → StopsExactly p (machineOf p) events
   stops-exactly events =
       record {
-        at-nothing-else = first-fault (start (coldOf p)) (start-inv p a) start-going events;
+        at-nothing-else = λ stop. first-fault (begin (coldOf p)) (start-inv p a) start-going events (stopped-number (history (machineOf p) events .state .phase) .0 stop);
         at-the-first = λ f.
-            subst (λ (all : List Event). Kept (history p (f .before)) (f .event) (history p all)) (sym (f .in-order))
-            (kept-first (start (coldOf p)) (start-inv p a) start-going (f .before) (f .event) (f .after) (f .is-fault) (f .none-before));
+            subst (λ (all : List Event). Kept (history (machineOf p) (f .before)) (f .event) (history (machineOf p) all)) (sym (f .in-order))
+            (kept-first (begin (coldOf p)) (start-inv p a) start-going (f .before) (f .event) (f .after) (f .is-fault) (f .none-before));
       }
 
   -- a stopped phase is one of a stage and a cause
   stopped-answers : (s : State) → Fits p s → (phase : Phase) → s .phase ≡ phase → isStopped phase ≡ true → (e : Event)
-      → answerOf p s e ≡ refusedAnswer s (Refused MachineStopped)
+      → RefusedWith 14 0 s (answerOf p s e)
   stopped-answers s f (At stage) at stop e = absurd (false≢true stop)
-  stopped-answers s f (StoppedPhase stage cause) at stop e = too-late p a s f at e
-
-  pub stays-stopped : (events : List Event) → Stopped (history p events) → StaysStopped p events
-  stays-stopped events stop =
+  stopped-answers s f (Stopped stage cause) at stop e =
+      let says = too-late p a s f at e in
       record {
-        asks-for-nothing = stopped-answers (history p events .state) (history-inv p a events .fit) (history p events .state .phase) refl stop;
-        stays = λ more. since-on p (start (coldOf p)) events more ∙ no-more (history p events) (history-inv p a events) stop more;
+        verdict = ap (λ (x : Answer). outcome (x .verdict)) says;
+        state = ap (λ (x : Answer). x .state) says;
+        no-call = ap (λ (x : Answer). callWords (x .call)) says;
+      }
+
+  pub stays-stopped : (events : List Event) → HasStopped (history (machineOf p) events) → StaysStopped (machineOf p) events
+  stays-stopped events number =
+      let h = history (machineOf p) events in
+      let stop = stopped-number (h .state .phase) .0 number in
+      record {
+        asks-for-nothing = stopped-answers (h .state) (history-inv p a events .fit) (h .state .phase) refl stop;
+        stays = λ more. since-on (machineOf p) (begin (coldOf p)) events more ∙ no-more h (history-inv p a events) stop more;
       }
 
   -- a zero, by the phase
   module _ (h : History) (i : Inv p h) where
     -- no other call is open
-    other : {c d : Call} → openCall (h .calls) ≡ c → openCall (h .calls) ≡ d → callWords c .number ≡ callWords d .number
+    other : {c d : CallWords} → openCall (h .entries) ≡ c → openCall (h .entries) ≡ d → c .number ≡ d .number
     other is also = apart (sym is ∙ also)
 
-    says : {to : Answer} → answerOf p (h .state) (status 0) ≡ to → next p h (status 0) ≡ goOn h (status 0) to
+    says : {to : Answer} → answerOf p (h .state) (status 0) ≡ to → next (machineOf p) h (status 0) ≡ goOn h (status 0) to
     says e = ap (goOn h (status 0)) e
 
-    zero-at : (stage : Stage) → h .state .phase ≡ At stage → ZeroGoesOn p h
-    zero-at RunningStage e =
-        let is = open-call h i RunningStage e in
+    zero-at : (stage : Stage) → h .state .phase ≡ At stage → ZeroGoesOn p (machineOf p) h
+    zero-at Running e =
+        let is = open-call h i Running e in
         record {
           for-save = λ q also. absurd (omega (arith, other is also));
           for-swap = λ q also. absurd (omega (arith, other is also));
@@ -248,7 +306,7 @@ module _ (p : Plan) (a : plan.Accepted p) where
         let onward = subst (FitsPhase p (h .state)) e (i .fit) .place .to-next in
         record {
           for-save = λ q also.
-              ap (λ (x : History). x .calls) to ∙ ap (λ (w : ℕ). called (Swap (ownerNo p w)) ∷ answered 0 ∷ h .calls) onward;
+              ap (λ (x : History). x .entries) to ∙ ap (λ (w : ℕ). called (swapFor (ownerOf p w)) ∷ answered 0 ∷ h .entries) onward;
           for-swap = λ q also. absurd (omega (arith, other is also));
           for-resume = λ q also. absurd (omega (arith, other is also));
         }
@@ -258,8 +316,8 @@ module _ (p : Plan) (a : plan.Accepted p) where
         record {
           for-save = λ q also. absurd (omega (arith, other is also));
           for-swap = λ q also.
-              ap (λ (x : History). x .calls) to
-              ∙ ap (λ (r : PartitionNo). called (ResumeCall r) ∷ answered 0 ∷ h .calls) (same-partition (sym is ∙ also) refl refl);
+              ap (λ (x : History). x .entries) to
+              ∙ ap (λ (r : ℕ). called (resumeFor r) ∷ answered 0 ∷ h .entries) (same-partition (sym is ∙ also));
           for-resume = λ q also. absurd (omega (arith, other is also));
         }
     zero-at Resume e =
@@ -269,21 +327,21 @@ module _ (p : Plan) (a : plan.Accepted p) where
           for-save = λ q also. absurd (omega (arith, other is also));
           for-swap = λ q also. absurd (omega (arith, other is also));
           for-resume = λ q also. (
-            ap (λ (x : History). runs (x .state .phase)) to,
-            ap (λ (x : History). ownerNo p (x .state .current .0)) to ∙ same-partition (sym is ∙ also) refl refl,
-            ap (λ (x : History). x .calls) to,
+            ap (λ (x : History). phaseNumber x) to,
+            ap (λ (x : History). ownerOf p (x .state .current .0)) to ∙ same-partition (sym is ∙ also),
+            ap (λ (x : History). x .entries) to,
           );
         }
 
-    zero-in : (phase : Phase) → h .state .phase ≡ phase → (isStopped phase ≡ true → ⊥) → ZeroGoesOn p h
+    zero-in : (phase : Phase) → h .state .phase ≡ phase → (isStopped phase ≡ true → ⊥) → ZeroGoesOn p (machineOf p) h
     zero-in (At stage) e going = zero-at stage e
-    zero-in (StoppedPhase stage cause) e going = absurd (going refl)
+    zero-in (Stopped stage cause) e going = absurd (going refl)
 
     -- what holds while it runs
-    runs-in : (phase : Phase) → h .state .phase ≡ phase → runs phase ≡ true → Running p h
-    runs-in (At RunningStage) e run =
+    runs-in : (phase : Phase) → h .state .phase ≡ phase → runs phase ≡ true → WhileRunning p h
+    runs-in (At Running) e run =
         let w = subst (FitsPhase p (h .state)) e (i .fit) in
-        let (earlier, calls) = talks h i (At RunningStage) e in
+        let (earlier, calls) = talks h i (At Running) e in
         let now = subst (Holds (offsetOf p) (budgetOf p) (h .state .current .0)) (i .in-time) (w .place .holds) in
         record {
           only-window = record {
@@ -299,86 +357,99 @@ module _ (p : Plan) (a : plan.Accepted p) where
     runs-in (At SaveCtx) e run = absurd (false≢true run)
     runs-in (At ProgramRegions) e run = absurd (false≢true run)
     runs-in (At Resume) e run = absurd (false≢true run)
-    runs-in (StoppedPhase stage cause) e run = absurd (false≢true run)
+    runs-in (Stopped stage cause) e run = absurd (false≢true run)
 
-  pub zero-goes-on : (events : List Event) → (Stopped (history p events) → ⊥) → ZeroGoesOn p (history p events)
-  zero-goes-on events going = zero-in (history p events) (history-inv p a events) (history p events .state .phase) refl going
+  -- by the phase of a machine that goes on
+  going-on : {A : Type 0} (h : History) → (HasStopped h → ⊥) → ((stage : Stage) → h .state .phase ≡ At stage → A) → A
+  going-on {A} h going make = of (h .state .phase) refl
+    where
+      of : (phase : Phase) → h .state .phase ≡ phase → A
+      of (At stage) e = make stage e
+      of (Stopped stage cause) e = absurd (going (stopped-number (h .state .phase) .1 (ap isStopped e)))
+
+  pub zero-goes-on : (events : List Event) → (HasStopped (history (machineOf p) events) → ⊥) → ZeroGoesOn p (machineOf p) (history (machineOf p) events)
+  zero-goes-on events going =
+      let h = history (machineOf p) events in
+      going-on h going (zero-at h (history-inv p a events))
 
   -- where zeros lead, by the phase
   afterZero : Stage → Stage
-  afterZero RunningStage = RunningStage
+  afterZero Running = Running
   afterZero SaveCtx = ProgramRegions
   afterZero ProgramRegions = Resume
-  afterZero Resume = RunningStage
+  afterZero Resume = Running
 
-  zero-phase : (h : History) → Inv p h → (stage : Stage) → h .state .phase ≡ At stage → next p h (status 0) .state .phase ≡ At (afterZero stage)
+  zero-phase : (h : History) → Inv p h → (stage : Stage) → h .state .phase ≡ At stage
+      → next (machineOf p) h (status 0) .state .phase ≡ At (afterZero stage)
   unfolding afterZero
-  zero-phase h i RunningStage e = ap (λ (x : Answer). x .state .phase) (unasked p a (h .state) (i .fit) e 0) ∙ e
+  zero-phase h i Running e = ap (λ (x : Answer). x .state .phase) (unasked p a (h .state) (i .fit) e 0) ∙ e
   zero-phase h i SaveCtx e = ap (λ (x : Answer). x .state .phase) (zero-swaps p a (h .state) (i .fit) e)
   zero-phase h i ProgramRegions e = ap (λ (x : Answer). x .state .phase) (zero-resumes p a (h .state) (i .fit) e)
   zero-phase h i Resume e = ap (λ (x : Answer). x .state .phase) (zero-runs p a (h .state) (i .fit) e)
 
   two-phases : (h : History) → Inv p h → (stage : Stage) → h .state .phase ≡ At stage
-      → since p h (status 0 ∷ status 0 ∷ []) .state .phase ≡ At (afterZero (afterZero stage))
+      → since (machineOf p) h (status 0 ∷ status 0 ∷ []) .state .phase ≡ At (afterZero (afterZero stage))
   two-phases h i stage e =
-      zero-phase (next p h (status 0)) (next-inv p a h i (status 0)) (afterZero stage) (zero-phase h i stage e)
+      zero-phase (next (machineOf p) h (status 0)) (next-inv p a h i (status 0)) (afterZero stage) (zero-phase h i stage e)
 
   three-phases : (h : History) → Inv p h → (stage : Stage) → h .state .phase ≡ At stage
-      → since p h (status 0 ∷ status 0 ∷ status 0 ∷ []) .state .phase ≡ At (afterZero (afterZero (afterZero stage)))
-  three-phases h i stage e = two-phases (next p h (status 0)) (next-inv p a h i (status 0)) (afterZero stage) (zero-phase h i stage e)
+      → since (machineOf p) h (status 0 ∷ status 0 ∷ status 0 ∷ []) .state .phase ≡ At (afterZero (afterZero (afterZero stage)))
+  three-phases h i stage e =
+      two-phases (next (machineOf p) h (status 0)) (next-inv p a h i (status 0)) (afterZero stage) (zero-phase h i stage e)
 
   three-run : (stage : Stage) → runs (At (afterZero (afterZero (afterZero stage)))) ≡ true
   unfolding afterZero
-  three-run RunningStage = refl
+  three-run Running = refl
   three-run SaveCtx = refl
   three-run ProgramRegions = refl
   three-run Resume = refl
 
-  pub two-zeros : TwoZeros p
+  pub two-zeros : TwoZeros (machineOf p)
   unfolding afterZero
-  two-zeros = ap runs (two-phases (start (coldOf p)) (start-inv p a) ProgramRegions (start-phase p a))
+  two-zeros =
+      running-number (history (machineOf p) (status 0 ∷ status 0 ∷ []) .state .phase) .1
+      (ap runs (two-phases (begin (coldOf p)) (start-inv p a) ProgramRegions (start-phase p a)))
 
-  -- by the phase of a machine that goes on
-  going-on : {A : Type 0} (h : History) → (Stopped h → ⊥) → ((stage : Stage) → h .state .phase ≡ At stage → A) → A
-  going-on {A} h going make = of (h .state .phase) refl
-    where
-      of : (phase : Phase) → h .state .phase ≡ phase → A
-      of (At stage) e = make stage e
-      of (StoppedPhase stage cause) e = absurd (going (ap isStopped e))
-
-  pub three-zeros : (events : List Event) → (Stopped (history p events) → ⊥) → ThreeZeros p events
+  pub three-zeros : (events : List Event) → (HasStopped (history (machineOf p) events) → ⊥) → ThreeZeros (machineOf p) events
   three-zeros events going =
-      let h = history p events in
+      let h = history (machineOf p) events in
       going-on h going (λ stage e.
-      ap (λ (x : History). runs (x .state .phase)) (since-on p (start (coldOf p)) events (status 0 ∷ status 0 ∷ status 0 ∷ []))
+      running-number (history (machineOf p) (events ++ (status 0 ∷ status 0 ∷ status 0 ∷ [])) .state .phase) .1
+      (ap (λ (x : History). runs (x .state .phase)) (since-on (machineOf p) (begin (coldOf p)) events (status 0 ∷ status 0 ∷ status 0 ∷ []))
       ∙ ap runs (three-phases h (history-inv p a events) stage e)
-      ∙ three-run stage)
+      ∙ three-run stage))
 
-  pub runs-or-waits : (events : List Event) → (Stopped (history p events) → ⊥) → RunsOrWaits (history p events)
-  runs-or-waits events going = going-on (history p events) going of
+  pub runs-or-waits : (events : List Event) → (HasStopped (history (machineOf p) events) → ⊥) → RunsOrWaits (history (machineOf p) events)
+  runs-or-waits events going = going-on h going of
     where
-      of : (stage : Stage) → history p events .state .phase ≡ At stage → RunsOrWaits (history p events)
-      of RunningStage e = inl (ap runs e)
-      of SaveCtx e = inr (is-open (history p events) (history-inv p a events) SaveCtx e refl)
-      of ProgramRegions e = inr (is-open (history p events) (history-inv p a events) ProgramRegions e refl)
-      of Resume e = inr (is-open (history p events) (history-inv p a events) Resume e refl)
+      h : History
+      h = history (machineOf p) events
+
+      of : (stage : Stage) → h .state .phase ≡ At stage → RunsOrWaits h
+      of Running e = inl (running-number (h .state .phase) .1 (ap runs e))
+      of SaveCtx e = inr (is-open h (history-inv p a events) SaveCtx e refl)
+      of ProgramRegions e = inr (is-open h (history-inv p a events) ProgramRegions e refl)
+      of Resume e = inr (is-open h (history-inv p a events) Resume e refl)
 
   -- the right tick, by the cases of a tick
   right-in : (h : History) → Inv p h → (phase : Phase) → h .state .phase ≡ phase → runs phase ≡ true
-      → TickCase (timetableOf p) (h .state) (right p h) → RightTick p h
+      → TickCase (timetableOf p) (h .state) (right p h) → RightTick p (machineOf p) h
   right-in h i phase at run (window-goes-on e due more to) =
       let says = on-tick p a (h .state) (i .fit) e (right p h) to in
       record {
         taken = ap (λ (x : Answer). goOn h (tick (right p h)) x .taken) says
             ∙ ap (λ (phase : Phase). cond (isStopped phase) (h .taken) (h .taken + 1)) e;
         last = λ ends. absurd (more ends);
-        not-last = λ goes. (ap (λ (x : Answer). runs (x .state .phase)) says ∙ ap runs e, ap (λ (x : Answer). goOn h (tick (right p h)) x .calls) says);
+        not-last = λ goes. (
+          ap (λ (x : Answer). phaseWords (x .state .phase) .phase) says ∙ ap (λ (x : Phase). phaseWords x .phase) e,
+          ap (λ (x : Answer). goOn h (tick (right p h)) x .entries) says,
+        );
       }
   right-in h i phase at run (window-ends e due last to) =
       let says = on-tick p a (h .state) (i .fit) e (right p h) to in
       record {
         taken = ap (λ (x : Answer). goOn h (tick (right p h)) x .taken) says;
-        last = λ ends. ap (λ (x : Answer). goOn h (tick (right p h)) x .calls) says;
+        last = λ ends. ap (λ (x : Answer). goOn h (tick (right p h)) x .entries) says;
         not-last = λ goes. absurd (goes last);
       }
   right-in h i phase at run (wrong-tick e wrong to) = absurd (wrong (sym (i .in-time)))
@@ -386,24 +457,34 @@ module _ (p : Plan) (a : plan.Accepted p) where
       absurd (true≢false (sym run ∙ ap runs (sym at ∙ e) ∙ ap not waits))
   right-in h i phase at run (tick-too-late stage cause e to) = absurd (true≢false (sym run ∙ ap runs (sym at ∙ e)))
 
-  pub right-tick : (events : List Event) → Runs (history p events) → RightTick p (history p events)
+  pub right-tick : (events : List Event) → Runs (history (machineOf p) events) → RightTick p (machineOf p) (history (machineOf p) events)
   right-tick events run =
-      right-in (history p events) (history-inv p a events) (history p events .state .phase) refl run
-      (tick-case (timetableOf p) (history p events .state) (right p (history p events)))
+      let h = history (machineOf p) events in
+      right-in h (history-inv p a events) (h .state .phase) refl (running-number (h .state .phase) .0 run)
+      (tick-case (timetableOf p) (h .state) (right p h))
 
-  pub running : (events : List Event) → Runs (history p events) → Running p (history p events)
-  running events run = runs-in (history p events) (history-inv p a events) (history p events .state .phase) refl run
+  pub while-running : (events : List Event) → Runs (history (machineOf p) events) → WhileRunning p (history (machineOf p) events)
+  while-running events run =
+      let h = history (machineOf p) events in
+      runs-in h (history-inv p a events) (h .state .phase) refl (running-number (h .state .phase) .0 run)
 
-  pub begins : Begins p
+  pub begins : Begins p (machineOf p)
+  unfolding coldMove
   begins =
       record {
+        verdict = ap (λ (x : Answer). outcome (x .verdict)) (cold-accepted p (all-accepted p a));
         state = ap (λ (x : History). x .state) (start-is p a);
         none-taken = ap (λ (x : History). x .taken) (start-is p a);
-        asks = ap (λ (x : History). x .calls) (start-is p a);
+        asks = ap (λ (x : History). x .entries) (start-is p a);
       }
 
+-- the check's verdict, and what it says of the plan
+pub accepts : (p : Plan) → CheckAccepts p → plan.AcceptedIf p
+accepts p ok = accepted-all p (same-outcome (verdictOf p) Accepted ok)
+
 pub demand-3 : Demand3
-demand-3 p a =
+demand-3 p u32 ok =
+    let a = accepts p ok in
     record {
       begins = begins p a;
       stops = stops-exactly p a;
@@ -413,8 +494,9 @@ demand-3 p a =
       zero-goes-on = zero-goes-on p a;
       two-zeros = two-zeros p a;
       three-zeros = three-zeros p a;
-      running = running p a;
+      while-running = while-running p a;
+      addresses = separation p u32 a;
     }
 
 pub rows-do-not-matter : RowsDoNotMatter
-rows-do-not-matter q p p′ a a′ same events = same-history p p′ a a′ same events
+rows-do-not-matter q p p′ ok ok′ same events = same-history p p′ (accepts p ok) (accepts p′ ok′) same events

@@ -5,11 +5,11 @@ use mathlib.Core.Logic.{_↔_}
 use mathlib.Core.Path.{_≡_}
 use Prim.Native.Nat.{ℕ, _<_}
 use Rattle.refusal.specs.declared.Verdict.the-variants.{Accepted}
-use Rattle.major_frame.specs.declared.frame.MajorFrame.{MajorFrame}
+use Rattle.major_frame.specs.declared.MajorFrame.{MajorFrame}
 use Rattle.major_frame.specs.Frame.{partitionAt, offsetAt, budgetAt, frameVerdict, currentWindow}
 use Rattle.plan.specs.Plan.{Plan, planOf}
 use Rattle.plan.specs.Faults.{verdictOf}
-use Rattle.plan.specs.Lookup.{lookupOf}
+use Rattle.lookup.specs.Lookup.{lookupOf}
 
 -- the four windows as a plan's list
 unfoldable pub windowsOf : MajorFrame → List ℕ

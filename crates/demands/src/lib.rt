@@ -1,2 +1,2 @@
-// Theorems only, about what the other crates define: the demands on the switcher, the agreement with the four-window port, and the
-// cases that document 01 wants proved. The statements are in specs/, their proofs in proofs/.
+// Theorems only: the demands of the mission, each a named statement in specs/ with its proof; the bad versions that they rule out; the table of
+// proved cases; the agreement with the four-window port.

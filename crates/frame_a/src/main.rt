@@ -1,9 +1,7 @@
 // Frame A of document 01: the check's verdict, and the window at ticks 9, 10, 49 and 50; the region words of partition 1, for a row of
-// 1024 writable bytes; the machine from its cold start to a stop. Then the same frame with budget 0 in window 2.
-mod steps;
-
+// 1024 writable bytes. Then the same frame with budget 0 in window 2.
 use plan::Frame;
-use plan::PartitionNo;
+use records::PartitionNo;
 use refusal::Verdict;
 use region::Pair;
 
@@ -40,7 +38,7 @@ fn print_check(name: &[u8], windows: &[u32]) {
 
 fn print_window(t: u32) {
     let frame = Frame { length: 50 };
-    let located = frame.lookup(&FRAME_A, &[], t);
+    let located = lookup::lookup(frame, &FRAME_A, &[], t);
     let verdict = located.verdict;
     io::write_all(OUT, b"tick ");
     io::print_decimal(OUT, t as u64);
@@ -78,6 +76,5 @@ fn main() {
     print_window(49);
     print_window(50);
     print_words();
-    steps::print_steps();
     print_check(b"budget 0 in window 2\t", &ONE_BUDGET_ZERO);
 }

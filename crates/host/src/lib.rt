@@ -3,11 +3,11 @@
 ghost use mathlib.Core.Path.{_≡_};
 ghost use Rattle.plan.specs.Plan.{planOf};
 ghost use Rattle.plan.specs.Faults.{verdictOf};
-ghost use Rattle.plan.specs.Lookup.{lookupOf};
+ghost use Rattle.lookup.specs.Lookup.{lookupOf};
 ghost use Rattle.region.specs.Words.{wordsOf};
 ghost use Rattle.host.specs.Numbers.{outcomeOf, whereaboutsOf, regionWordsOf};
 use plan::Frame;
-use plan::PartitionNo;
+use records::PartitionNo;
 use refusal::Verdict;
 use region::Pair;
 
@@ -61,7 +61,7 @@ pub extern "C" fn shillingnook_lookup(
 ) -> Whereabouts
     ensures { λ r. ⌜ r ≡ whereaboutsOf (lookupOf (planOf frame (now (windows .entry)) (now (rows .entry))) t) ⌝ }
 {
-    let located = frame.lookup(windows, rows, t);
+    let located = lookup::lookup(frame, windows, rows, t);
     let verdict = located.verdict;
     let outcome = outcome_of(verdict);
     Whereabouts {

@@ -1,22 +1,26 @@
 -- What the check's loop does, in terms of the frame's verdict: at window i the verdict is what the tests from i on say. And
 -- the verdict accepts exactly if `frame_inv` holds, which is that four windows follow one another.
 -- Assumes nothing.
-use mathlib.Core.Logic.{_↔_, _⊎_, ⊎-map, Iff·rfl}
+use mathlib.Core.Bool.{not}
+use mathlib.Core.Logic.{_↔_, _⊎_, ⊎-map, ⊎-elim, Iff·rfl}
 use mathlib.Core.Path.{_≡_, refl, sym}
 use Prim.Native.Nat.{ℕ, zero, suc, _+_, _-_, _≤_, _<_}
 use native.Mathlib.Omega.{arith}
-use borrow.Author.Tests.{ne-eqb, le-leb, lt-leb}
+use borrow.Author.Tests.{eq-eqb, ne-eqb}
+use lib.Dec.{eqb}
 use Rattle.refusal.specs.declared.Refusal.{Refusal}
-use Rattle.refusal.specs.declared.Refusal.the-variants.{WrongLength, TickPastFrame}
+use Rattle.refusal.specs.declared.Refusal.the-variants.{ZeroBudget, WrongStart, WrongLength, TickPastFrame}
 use Rattle.refusal.specs.declared.Verdict.{Verdict}
 use Rattle.refusal.specs.declared.Verdict.the-variants.{Accepted, Refused}
 use Rattle.refusal.specs.First.{refuseIf, orElse, firstFault, FirstAt}
-use Rattle.refusal.proofs.First.{refuses-if, both-accept, one-refuses, first-refuses, each-accepts, goes-on, stops, ends}
-use Rattle.refusal.proofs.Tests.{equal, positive}
+use Rattle.refusal.proofs.First.{refuses-if, fault-found, own-refusal, both-accept, one-refuses, first-refuses, refuses-first, each-accepts, all-accept, goes-on, stops, ends}
+use Rattle.refusal.proofs.Tests.{equal, positive, same, not-same}
 use Rattle.timeline.specs.Windows.{Follow, windowAt}
+use Rattle.timeline.specs.Lookup.{lookupVerdict}
 use Rattle.timeline.proofs.Laws.{ends-in-frame}
-use Rattle.major_frame.specs.declared.frame.MajorFrame.{MajorFrame}
-use Rattle.major_frame.specs.Frame.{offsetAt, budgetAt, winEnd, startOf, FrameInv, windowFault, windowTest, lengthTest, frameVerdict, lookupVerdict, located, currentWindow}
+use Rattle.timeline.proofs.Lookup as lookup
+use Rattle.major_frame.specs.declared.MajorFrame.{MajorFrame}
+use Rattle.major_frame.specs.Frame.{offsetAt, budgetAt, winEnd, startOf, FrameInv, windowFault, windowTest, lengthTest, frameVerdict, located, currentWindow}
 
 -- what the tests from window i on say
 abbrev pub verdictFrom : MajorFrame → ℕ → Verdict
@@ -51,9 +55,30 @@ unfolding windowFault
 window-accepted i start offset budget = simp (both-accept, refuses-if, equal, positive) Iff·rfl
 
 module _ (f : MajorFrame) where
-  test-accepted : (i : ℕ) → (windowTest f i ≡ Accepted) ↔ ((0 < budgetAt f i) × (offsetAt f i ≡ startOf f i))
+  pub test-accepted : (i : ℕ) → (windowTest f i ≡ Accepted) ↔ ((0 < budgetAt f i) × (offsetAt f i ≡ startOf f i))
   unfolding windowTest
   test-accepted i = window-accepted i (startOf f i) (offsetAt f i) (budgetAt f i)
+
+  -- and they refuse for one of two reasons
+  pub budget-refused : (i : ℕ) → budgetAt f i ≡ 0 → windowTest f i ≡ Refused (ZeroBudget i)
+  unfolding windowTest windowFault orElse refuseIf
+  budget-refused i e = rw (eq-eqb (budgetAt f i) 0 e)
+
+  pub start-refused : (i : ℕ) → 0 < budgetAt f i → (offsetAt f i ≡ startOf f i → ⊥) → windowTest f i ≡ Refused (WrongStart i)
+  unfolding windowTest windowFault orElse refuseIf
+  start-refused i h other = rw (positive (budgetAt f i) .1 h, ne-eqb (offsetAt f i) (startOf f i) other)
+
+  pub window-refused : (P : Refusal → Type 0) (i : ℕ) (r : Refusal) → windowTest f i ≡ Refused r
+      → (budgetAt f i ≡ 0 → P (ZeroBudget i))
+      → (0 < budgetAt f i → (offsetAt f i ≡ startOf f i → ⊥) → P (WrongStart i))
+      → P r
+  unfolding windowTest windowFault
+  window-refused P i r e no-budget other-start =
+      ⊎-elim (λ q. rw (own-refusal (eqb (budgetAt f i) 0) (ZeroBudget i) r q) at (no-budget (same _ _ .0 (fault-found _ _ r q))))
+      (λ q.
+      rw (own-refusal (not (eqb (offsetAt f i) (startOf f i))) (WrongStart i) r (q .1)) at
+      (other-start (positive _ .0 (refuses-if _ _ .0 (q .0))) (not-same _ _ .0 (fault-found _ _ r (q .1)))))
+      (one-refuses _ _ r e)
 
   pub length-accepted : (lengthTest f ≡ Accepted) ↔ (winEnd f 3 ≡ f .«frame_len»)
   unfolding lengthTest
@@ -62,6 +87,10 @@ module _ (f : MajorFrame) where
   pub length-refused : (winEnd f 3 ≡ f .«frame_len» → ⊥) → lengthTest f ≡ Refused (WrongLength 3)
   unfolding lengthTest refuseIf
   length-refused h = rw (ne-eqb (winEnd f 3) (f .«frame_len») h)
+
+  pub length-refuses : (r : Refusal) → lengthTest f ≡ Refused r → (WrongLength 3 ≡ r) × (winEnd f 3 ≡ f .«frame_len» → ⊥)
+  unfolding lengthTest
+  length-refuses r e = (own-refusal _ _ r e, not-same _ _ .0 (fault-found _ _ r e))
 
   -- the check accepts exactly if `frame_inv` holds
   pub accepted-inv : frameVerdict f ≡ Accepted → FrameInv f
@@ -101,6 +130,14 @@ module _ (f : MajorFrame) where
       (λ p. (λ i h. each-accepts (windowTest f) 0 4 (p .0) i (omega arith) (omega arith), p .1))
       (one-refuses (firstFault (windowTest f) 0 4) (lengthTest f) r e)
 
+  pub first-refused : (r : Refusal) (i : ℕ) → FirstAt (windowTest f) 0 4 r i → frameVerdict f ≡ Refused r
+  unfolding frameVerdict orElse
+  first-refused r i h = rw (refuses-first (windowTest f) 0 4 r i h)
+
+  pub last-refused : (r : Refusal) → ((i : ℕ) → i < 4 → windowTest f i ≡ Accepted) → lengthTest f ≡ Refused r → frameVerdict f ≡ Refused r
+  unfolding frameVerdict orElse
+  last-refused r each e = rw (all-accept (windowTest f) 0 4 (λ i low high. each i (omega arith))) e
+
   -- `frame_inv` says that the four windows follow one another
   pub follow : FrameInv f → Follow 4 (offsetAt f) (budgetAt f) (f .«frame_len»)
   follow h =
@@ -132,25 +169,19 @@ module _ (f : MajorFrame) where
   end-in-frame h i k = ends-in-frame (follow h) i k
 
   -- the three answers of a lookup
-  pub lookup-refused : (t : ℕ) (r : Refusal) → frameVerdict f ≡ Refused r
-      → currentWindow f t ≡ record { window = 0; verdict = Refused r }
-  unfolding currentWindow lookupVerdict located orElse
-  lookup-refused t r e = rw e
+  pub lookup-refused : (t : ℕ) (r : Refusal) → frameVerdict f ≡ Refused r → currentWindow f t ≡ located 0 (Refused r)
+  unfolding currentWindow
+  lookup-refused t = lookup.refused located _ _ t _
 
-  pub lookup-past : (t : ℕ) → frameVerdict f ≡ Accepted → f .«frame_len» ≤ t
-      → currentWindow f t ≡ record { window = 0; verdict = Refused TickPastFrame }
-  unfolding currentWindow lookupVerdict located orElse refuseIf
-  lookup-past t e h = rw (e, le-leb (f .«frame_len») t h)
+  pub lookup-past : (t : ℕ) → frameVerdict f ≡ Accepted → f .«frame_len» ≤ t → currentWindow f t ≡ located 0 (Refused TickPastFrame)
+  unfolding currentWindow
+  lookup-past t = lookup.past located _ _ t _
 
   pub lookup-found : (t : ℕ) → frameVerdict f ≡ Accepted → t < f .«frame_len»
-      → currentWindow f t ≡ record { window = windowAt 4 (offsetAt f) (budgetAt f) t; verdict = Accepted }
-  unfolding currentWindow lookupVerdict located orElse refuseIf
-  lookup-found t e h = rw (e, lt-leb (f .«frame_len») t h)
+      → currentWindow f t ≡ located (windowAt 4 (offsetAt f) (budgetAt f) t) Accepted
+  unfolding currentWindow
+  lookup-found t = lookup.found located _ _ t _
 
-  pub lookup-verdict : (t : ℕ) → currentWindow f t .verdict ≡ lookupVerdict f t
-  unfolding currentWindow located
-  lookup-verdict t = of (lookupVerdict f t)
-    where
-      of : (v : Verdict) → located v (windowAt 4 (offsetAt f) (budgetAt f) t) .verdict ≡ v
-      of Accepted = refl
-      of (Refused r) = refl
+  pub lookup-verdict : (t : ℕ) → currentWindow f t .verdict ≡ lookupVerdict (frameVerdict f) (f .«frame_len») t
+  unfolding currentWindow
+  lookup-verdict t = refl

@@ -1,3 +1,1 @@
 pub mod FrameLaws
-pub mod Original
-pub mod SwitchLaws

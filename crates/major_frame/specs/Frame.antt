@@ -3,15 +3,15 @@
 use mathlib.Core.Bool.{not}
 use mathlib.Core.Path.{_≡_}
 use Prim.Native.Nat.{ℕ, zero, suc, _+_, _≤_, _<_}
-use lib.Dec.{eqb, leb}
+use lib.Dec.{eqb}
 use lib.ListN.{getD}
-use Rattle.refusal.specs.declared.Refusal.the-variants.{ZeroBudget, WrongStart, WrongLength, TickPastFrame}
+use Rattle.refusal.specs.declared.Refusal.the-variants.{ZeroBudget, WrongStart, WrongLength}
 use Rattle.refusal.specs.declared.Verdict.{Verdict}
-use Rattle.refusal.specs.declared.Verdict.the-variants.{Accepted, Refused}
 use Rattle.refusal.specs.First.{refuseIf, orElse, firstFault}
 use Rattle.timeline.specs.Windows.{windowAt}
-use Rattle.major_frame.specs.declared.frame.MajorFrame.{MajorFrame}
-use Rattle.major_frame.specs.declared.frame.Located.{Located}
+use Rattle.timeline.specs.Lookup.{lookupVerdict, lookedUp}
+use Rattle.major_frame.specs.declared.MajorFrame.{MajorFrame}
+use Rattle.major_frame.specs.declared.Located.{Located}
 
 abbrev pub partitionAt : MajorFrame → ℕ → ℕ
 partitionAt f i = getD (f .«partition_id») i 0
@@ -64,15 +64,10 @@ lengthTest f = refuseIf (not (eqb (winEnd f 3) (f .«frame_len»))) (WrongLength
 unfoldable pub frameVerdict : MajorFrame → Verdict
 frameVerdict f = orElse (firstFault (windowTest f) 0 4) (lengthTest f)
 
--- the frame's refusal, else 12 for a tick not below `frame_len`
-unfoldable pub lookupVerdict : MajorFrame → ℕ → Verdict
-lookupVerdict f t = orElse (frameVerdict f) (refuseIf (leb (f .«frame_len») t) TickPastFrame)
+-- what a lookup answers: the window that holds the tick, and the verdict
+abbrev pub located : ℕ → Verdict → Located
+located window verdict = record { window = window; verdict = verdict }
 
--- a refused lookup answers window 0
-unfoldable pub located : Verdict → ℕ → Located
-located Accepted w = record { window = w; verdict = Accepted }
-located (Refused r) w = record { window = 0; verdict = Refused r }
-
--- the window that holds the tick
 unfoldable pub currentWindow : MajorFrame → ℕ → Located
-currentWindow f t = located (lookupVerdict f t) (windowAt 4 (offsetAt f) (budgetAt f) t)
+currentWindow f t =
+    lookedUp located (lookupVerdict (frameVerdict f) (f .«frame_len») t) (windowAt 4 (offsetAt f) (budgetAt f) t)

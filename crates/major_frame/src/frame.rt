@@ -1,30 +1,17 @@
-// The static major frame of four windows: its check, and the window that a tick falls in.
+// What a frame is asked: its verdict, the last tick and the owner of a window, and the window of a tick.
 ghost use mathlib.Core.Path.{_≡_};
 ghost use Prim.Native.Nat.{_+_, _<_};
+ghost use lib.Dec.{eqb};
 ghost use Rattle.timeline.specs.Windows.{windowAt};
-ghost use Rattle.major_frame.specs.Frame.{FrameInv, offsetAt, budgetAt, windowFault, frameVerdict, currentWindow};
+ghost use Rattle.major_frame.specs.Frame.{FrameInv, partitionAt, offsetAt, budgetAt, winEnd, windowFault, frameVerdict, currentWindow};
+use crate::LAST_WINDOW;
+use crate::Located;
+use crate::MAX_WINDOWS;
+use crate::MajorFrame;
+use crate::WINDOWS;
+use crate::window_end;
 use refusal::Refusal;
 use refusal::Verdict;
-
-pub const MAX_WINDOWS: usize = 4;
-
-// The same for window numbers, which are u32, and the last of them.
-pub const WINDOWS: u32 = 4;
-
-pub const LAST_WINDOW: u32 = 3;
-
-pub struct MajorFrame {
-    pub partition_id: [u32; MAX_WINDOWS],
-    pub offset: [u32; MAX_WINDOWS],
-    pub budget: [u32; MAX_WINDOWS],
-    pub frame_len: u32,
-}
-
-// Where a tick falls.
-pub struct Located {
-    pub window: u32,
-    pub verdict: Verdict,
-}
 
 // The tests of one window that should start at `start`.
 fn window_fault(i: u32, start: u64, offset: u32, budget: u32) -> Verdict
@@ -41,22 +28,41 @@ fn window_fault(i: u32, start: u64, offset: u32, budget: u32) -> Verdict
     }
 }
 
-// The sum is made in 64 bits, so that 4294967295 + 1 is not taken for 0.
-pub fn window_end(offset: u32, budget: u32) -> u64
-    ensures { λ r. ⌜ r ≡ offset + budget ⌝ }
-{
-    offset as u64 + budget as u64
-}
-
 impl MajorFrame {
+    // Tick t is the last of window i; no tick is the last of a window past the last.
+    pub fn is_last_tick(self, i: u32, t: u32) -> bool
+        ensures { λ r. ⌜ r ≡ eqb (t + 1) (winEnd self i) ⌝ }
+    {
+        if i < WINDOWS {
+            let at = i as usize;
+            t as u64 + 1 == window_end(self.offset[at], self.budget[at])
+        } else {
+            false
+        }
+    }
+
+    // Who owns window i; 0 past the last window.
+    pub fn partition_at(self, i: u32) -> u32
+        ensures { λ r. ⌜ r ≡ partitionAt self i ⌝ }
+    {
+        if i < WINDOWS {
+            self.partition_id[i as usize]
+        } else {
+            0
+        }
+    }
+
+    // Windows upward, then the frame's length.
     pub fn check(self) -> Verdict
         ensures { λ r. ⌜ r ≡ frameVerdict self ⌝ }
     {
+        let offset = self.offset;
+        let budget = self.budget;
         let mut end: u64 = 0;
         let mut i: usize = 0;
         while i < MAX_WINDOWS {
-            let starts = self.offset[i];
-            let lasts = self.budget[i];
+            let starts = offset[i];
+            let lasts = budget[i];
             let verdict = window_fault(i as u32, end, starts, lasts);
             let Verdict::Accepted = verdict else {
                 return verdict;

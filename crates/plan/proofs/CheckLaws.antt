@@ -1,7 +1,9 @@
 -- The verdict, test by test: document 01's order is the counts, a fold over the windows, the length, a fold over the rows.
 -- Assumes nothing.
 use mathlib.Core.List.{List, _∷_}
-use mathlib.Core.Path.{_≡_, ap, _∙_}
+use mathlib.Core.Bool.{true, false}
+use mathlib.Core.Logic.{_↔_}
+use mathlib.Core.Path.{_≡_, sym, ap, _∙_}
 use Prim.Native.Nat.{ℕ, _-_}
 use borrow.Author.Tests.{eq-eqb, ne-eqb}
 use lib.ListN.{length}
@@ -10,10 +12,15 @@ use Rattle.refusal.specs.declared.Refusal.the-variants.{Counts, WrongLength, Cl
 use Rattle.refusal.specs.declared.Verdict.{Verdict}
 use Rattle.refusal.specs.declared.Verdict.the-variants.{Accepted, Refused}
 use Rattle.refusal.specs.First.{refuseIf, orElse, refused, firstFault, upward, testAt, firstOf, FirstIn}
-use Rattle.refusal.proofs.First.{or-accepted, or-assoc, one-kind, first-of-cons, first-of-both, first-upward, first-in, in-first}
-use Rattle.plan.specs.Plan.{Plan, endOf, frameLength, windowCount, rowCount, windowOf, nthRow}
-use Rattle.plan.specs.Faults.{wrongCounts, wrongLength, clashes, clashTest, clashesBefore, wrong, windowFaults, rowFaults, pastCounts, order, verdictOf}
-use Rattle.plan.specs.Parts.{windowFault, windowTest, rowFault, rowTest}
+use native.Mathlib.Omega.{arith}
+use Rattle.rows.proofs.TestLaws.{row-count-right, counted as rows-counted}
+use Rattle.rows.specs.Tests.{rowsVerdict, clashes, clashTest, clashesBefore, rowFault, rowTest}
+use Rattle.refusal.proofs.Tests.{equal, positive, at-most, neither}
+use Rattle.plan.specs.Plan.{CountsInRange, Plan, frameLength, windowCount, rowCount, windowOf}
+use Rattle.refusal.proofs.First.{refuses-if, or-accepted, or-assoc, one-kind, first-of-cons, first-of-both, first-upward, first-in, in-first}
+use Rattle.records.specs.Records.{endOf, nthRow}
+use Rattle.plan.specs.Faults.{wrongCounts, wrongLength, wrong, windowFaults, rowFaults, pastCounts, order, verdictOf}
+use Rattle.plan.specs.Parts.{windowFault, windowTest}
 
 abbrev pub countsTest : Plan → Verdict
 countsTest p = refuseIf (wrongCounts (length (p .windows)) (length (p .rows))) Counts
@@ -21,6 +28,22 @@ countsTest p = refuseIf (wrongCounts (length (p .windows)) (length (p .rows))) C
 abbrev pub lengthTest : Plan → Verdict
 lengthTest p =
     refuseIf (wrongLength (frameLength p) (windowOf p (windowCount p - 1))) (WrongLength (windowCount p - 1))
+
+-- the counts are in range exactly if 1 is not wrong
+pub counts-accepted : (p : Plan) → (countsTest p ≡ Accepted) ↔ CountsInRange p
+unfolding wrongCounts
+counts-accepted p = (
+  λ e.
+      let whole = simp (refuses-if, neither, equal, positive, at-most, row-count-right) at e in
+      record {
+        windows-whole = omega arith;
+        rows-whole = omega arith;
+        one-window-at-least = omega arith;
+        windows-at-most = omega arith;
+        rows-at-most = omega arith;
+      },
+  λ c. simp (refuses-if, neither, equal, positive, at-most, row-count-right) (((omega arith, omega arith), omega arith), (omega arith, omega arith)),
+)
 
 own-clash : (rows : List ℕ) (i : ℕ) → refuseIf (refused (clashesBefore rows i)) (Clash i) ≡ clashesBefore rows i
 unfolding clashesBefore clashTest
@@ -55,24 +78,31 @@ module _ (p : Plan) where
   in-order = first-of-cons (wrong p) Counts (pastCounts p) ∙ ap (orElse (countsTest p)) past-counts
 
   -- the verdict at each place where `check` ends: the first part that refuses, or what the rows say
-  pub counts-refuse : (r : Refusal) → countsTest p ≡ Refused r → verdictOf p ≡ Refused r
-  unfolding orElse
-  counts-refuse r e = rw (in-order, e)
-
-  pub windows-refuse : (r : Refusal) → countsTest p ≡ Accepted → firstFault (windowTest (p .windows)) 0 (windowCount p) ≡ Refused r
-      → verdictOf p ≡ Refused r
-  unfolding orElse
-  windows-refuse r c e = rw (in-order, c, e)
-
-  pub length-refuses : countsTest p ≡ Accepted → firstFault (windowTest (p .windows)) 0 (windowCount p) ≡ Accepted
-      → (endOf (windowOf p (windowCount p - 1)) ≡ frameLength p → ⊥) → verdictOf p ≡ Refused (WrongLength (windowCount p - 1))
+  pub counts-refuse : wrongCounts (length (p .windows)) (length (p .rows)) ≡ true → verdictOf p ≡ Refused Counts
   unfolding orElse refuseIf
-  length-refuses c w e = rw (in-order, c, w, ne-eqb _ _ e)
+  counts-refuse e = rw (in-order, e)
 
-  pub rows-decide : countsTest p ≡ Accepted → firstFault (windowTest (p .windows)) 0 (windowCount p) ≡ Accepted
-      → endOf (windowOf p (windowCount p - 1)) ≡ frameLength p → verdictOf p ≡ firstFault (rowTest (p .rows)) 0 (rowCount p)
-  unfolding orElse refuseIf
-  rows-decide c w e = rw (in-order, c, w, eq-eqb _ _ e)
+  module _ (counted : wrongCounts (length (p .windows)) (length (p .rows)) ≡ false) where
+    pub in-range : CountsInRange p
+    in-range = counts-accepted p .0 (refuses-if _ _ .1 counted)
+
+    pub windows-refuse : (r : Refusal) → firstFault (windowTest (p .windows)) 0 (windowCount p) ≡ Refused r → verdictOf p ≡ Refused r
+    unfolding orElse refuseIf
+    windows-refuse r e = rw (in-order, counted, e)
+
+    pub length-refuses : firstFault (windowTest (p .windows)) 0 (windowCount p) ≡ Accepted
+        → (endOf (windowOf p (windowCount p - 1)) ≡ frameLength p → ⊥) → verdictOf p ≡ Refused (WrongLength (windowCount p - 1))
+    unfolding orElse refuseIf
+    length-refuses w e = rw (in-order, counted, w, ne-eqb _ _ e)
+
+    -- whole rows and not too many, so that nothing is left of the rows' verdict but its fold
+    rows-fold : rowsVerdict (p .rows) ≡ firstFault (rowTest (p .rows)) 0 (rowCount p)
+    rows-fold = rows-counted (p .rows) (row-count-right (length (p .rows)) .1 (omega (arith, in-range .rows-whole), in-range .rows-at-most))
+
+    pub rows-decide : firstFault (windowTest (p .windows)) 0 (windowCount p) ≡ Accepted
+        → endOf (windowOf p (windowCount p - 1)) ≡ frameLength p → verdictOf p ≡ rowsVerdict (p .rows)
+    unfolding orElse refuseIf
+    rows-decide w e = rw (in-order, counted, w, eq-eqb _ _ e) (sym rows-fold)
 
   -- a refusal is the first in document 01's order
   pub refused-first : (r : Refusal) → verdictOf p ≡ Refused r → FirstIn (wrong p) (order p) r

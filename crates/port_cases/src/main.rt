@@ -1,13 +1,12 @@
-// Document 01's cases for the four-window port, one to a line: the frames' verdicts, then steps and switches over frame A.
+// Document 01's cases for the four-window port, one to a line: the frames' verdicts, lookups, then steps and switches over frame A.
 // A verdict is its number and place, 0 0 where accepted; a state is its window, phase (0 Running to 3 Resume) and mark.
-use major_frame::frame::MajorFrame;
-use major_frame::seam::Calls;
-use major_frame::seam::SeamCall;
-use major_frame::switcher::Stepped;
-use major_frame::switcher::SwPhase;
-use major_frame::switcher::Switched;
-use major_frame::switcher::Switcher;
+use major_frame::MajorFrame;
 use refusal::Verdict;
+use switcher::Calls;
+use switcher::SeamCall;
+use switcher::Stepped;
+use switcher::SwPhase;
+use switcher::Switcher;
 
 const OUT: i32 = 1;
 
@@ -16,7 +15,12 @@ fn put(n: u32) {
     io::print_decimal(OUT, n as u64);
 }
 
-fn put_verdict(verdict: Verdict) {
+fn put_flag(flag: bool) {
+    put(if flag { 1 } else { 0 });
+}
+
+fn put_verdict(name: &[u8], verdict: Verdict) {
+    io::write_all(OUT, name);
     let Verdict::Refused(r) = verdict else {
         put(0);
         put(0);
@@ -29,20 +33,13 @@ fn put_verdict(verdict: Verdict) {
 fn put_state(s: Switcher) {
     let phase = s.phase;
     put(s.cur);
-    put(
-        match phase {
-            SwPhase::Running => 0,
-            SwPhase::SaveCtx => 1,
-            SwPhase::ProgramRegions => 2,
-            SwPhase::Resume => 3,
-        },
-    );
-    put(if s.swapped { 1 } else { 0 });
+    put(switcher::phase_number(phase));
+    put_flag(s.swapped);
 }
 
 fn put_call(call: SeamCall) {
-    put(major_frame::seam::call_number(call));
-    put(major_frame::seam::call_partition(call));
+    put(switcher::call_number(call));
+    put(switcher::call_partition(call));
 }
 
 fn put_calls(calls: Calls) {
@@ -54,111 +51,149 @@ fn put_calls(calls: Calls) {
     put_call(third);
 }
 
-fn show_frame(name: &[u8], frame: MajorFrame) {
-    io::write_all(OUT, name);
-    put_verdict(frame.check());
+fn end() {
     io::write_all(OUT, b"\n");
 }
 
-fn show_step(name: &[u8], r: Stepped) {
+// The state is handed on.
+fn show_step(name: &[u8], r: Stepped) -> Switcher {
     let verdict = r.verdict;
-    io::write_all(OUT, name);
-    put_verdict(verdict);
-    put(if r.done { 1 } else { 0 });
-    put_state(r.state);
-    io::write_all(OUT, b"\n");
+    let state = r.state;
+    put_verdict(name, verdict);
+    put_flag(r.done);
+    put_state(state);
+    end();
+    state
 }
 
-fn show_switch(name: &[u8], r: Switched) {
+fn show_tick(name: &[u8], s: Switcher, t: u32) -> Switcher {
+    show_step(name, s.tick(t))
+}
+
+fn show_switch(name: &[u8], s: Switcher, save: u32, swap: u32, resume: u32) {
+    let r = s.run_switch(save, swap, resume);
     let verdict = r.verdict;
-    io::write_all(OUT, name);
-    put_verdict(verdict);
+    put_verdict(name, verdict);
     put_state(r.state);
     put_calls(r.calls);
-    io::write_all(OUT, b"\n");
+    end();
 }
 
-fn frame(offset: [u32; 4], budget: [u32; 4], frame_len: u32) -> MajorFrame {
+// Owners 0, 1, 0, 2, as in frame A.
+fn frame(
+    o0: u32,
+    o1: u32,
+    o2: u32,
+    o3: u32,
+    b0: u32,
+    b1: u32,
+    b2: u32,
+    b3: u32,
+    frame_len: u32,
+) -> MajorFrame {
     MajorFrame {
         partition_id: [0, 1, 0, 2],
-        offset,
-        budget,
+        offset: [o0, o1, o2, o3],
+        budget: [b0, b1, b2, b3],
         frame_len,
     }
 }
 
 fn frame_a() -> MajorFrame {
-    frame([0, 10, 30, 35], [10, 20, 5, 15], 50)
+    frame(0, 10, 30, 35, 10, 20, 5, 15, 50)
+}
+
+fn show_frame(name: &[u8], f: MajorFrame) {
+    put_verdict(name, f.check());
+    end();
 }
 
 fn show_frames() {
     show_frame(b"A:", frame_a());
     show_frame(
-        b"a sum of 2^32:",
-        frame([0, 1, 2, 4294967295], [1, 1, 4294967293, 1], 0),
+        b"sum 2^32:",
+        frame(0, 1, 2, 4294967295, 1, 1, 4294967293, 1, 0),
     );
     show_frame(
-        b"the longest:",
-        frame([0, 1, 2, 4294967294], [1, 1, 4294967292, 1], 4294967295),
+        b"longest:",
+        frame(0, 1, 2, 4294967294, 1, 1, 4294967292, 1, 4294967295),
     );
-    show_frame(
-        b"budget before start:",
-        frame([5, 10, 30, 35], [0, 20, 5, 15], 50),
-    );
-    show_frame(
-        b"a gap before window 2:",
-        frame([0, 10, 31, 35], [10, 20, 4, 15], 50),
-    );
-    show_frame(
-        b"windows before length:",
-        frame([0, 10, 30, 35], [10, 20, 5, 0], 51),
-    );
-    show_frame(b"length:", frame([0, 10, 30, 35], [10, 20, 5, 15], 51));
+    show_frame(b"2 before 3:", frame(5, 10, 30, 35, 0, 20, 5, 15, 50));
+    show_frame(b"gap:", frame(0, 10, 31, 35, 10, 20, 4, 15, 50));
+    show_frame(b"2 before 5:", frame(0, 10, 30, 35, 10, 20, 5, 0, 51));
+    show_frame(b"length:", frame(0, 10, 30, 35, 10, 20, 5, 15, 51));
 }
 
-fn show_steps(s: Switcher) {
-    show_step(b"tick 8:", s.tick(8));
-    show_step(b"tick 9:", s.tick(9));
-    show_step(b"tick 10:", s.tick(10));
-    show_step(b"saved too early:", s.mark_saved());
+fn show_lookup(name: &[u8], t: u32) {
+    let r = frame_a().current_window(t);
+    let verdict = r.verdict;
+    put_verdict(name, verdict);
+    put(r.window);
+    end();
 }
 
-fn show_switches(s: Switcher) {
-    show_switch(b"no switch is due:", s.run_switch(0, 0, 0));
-    let due = s.tick(9).state;
-    show_switch(b"all zero:", due.run_switch(0, 0, 0));
-    show_switch(b"save fails:", due.run_switch(7, 0, 0));
-    show_switch(b"swap fails:", due.run_switch(0, 7, 0));
-    show_switch(b"resume fails:", due.run_switch(0, 0, 7));
+fn show_lookups() {
+    show_lookup(b"at 9:", 9);
+    show_lookup(b"at 10:", 10);
+    show_lookup(b"at 49:", 49);
+    show_lookup(b"at 50:", 50);
 }
 
-fn show_marks(s: Switcher) {
-    let due = s.tick(9).state;
-    let saved = due.mark_saved();
-    show_step(b"saved:", saved);
-    let swapped = saved.state.mark_swapped();
-    show_step(b"swapped:", swapped);
-    show_step(b"resumed:", swapped.state.mark_resumed());
+fn show_new(name: &[u8], f: MajorFrame) -> Switcher {
+    let r = Switcher::new(f);
+    let verdict = r.verdict;
+    let state = r.state;
+    put_verdict(name, verdict);
+    put_state(state);
+    end();
+    state
 }
 
-fn show_strange(s: Switcher) {
-    let mut far = s;
-    far.cur = 4;
-    show_step(b"window 4:", far.tick(9));
-    let mut marked = s.tick(9).state;
-    marked.swapped = true;
-    show_step(b"marked before the swap:", marked.mark_saved());
-    let mut broken = far;
-    let f = frame([0, 10, 30, 35], [10, 20, 5, 15], 51);
-    broken.frame = f;
-    show_step(b"a bad frame first:", broken.tick(9));
+fn show_steps(s: Switcher) -> Switcher {
+    show_step(b"early:", s.mark_saved());
+    show_tick(b"tick 8:", s, 8);
+    show_tick(b"tick 10:", s, 10);
+    show_tick(b"tick 9:", s, 9)
+}
+
+fn show_switches(due: Switcher) {
+    show_switch(b"zeros:", due, 0, 0, 0);
+    show_switch(b"save 7:", due, 7, 0, 0);
+    show_switch(b"swap 7:", due, 0, 7, 0);
+    show_switch(b"resume 7:", due, 0, 0, 7);
+}
+
+fn show_marks(due: Switcher) -> Switcher {
+    let saved = show_step(b"saved:", due.mark_saved());
+    let swapped = show_step(b"swapped:", saved.mark_swapped());
+    show_step(b"resumed:", swapped.mark_resumed())
+}
+
+// A state over frame A with that length.
+fn state(frame_len: u32, cur: u32, phase: SwPhase, swapped: bool) -> Switcher {
+    let frame = frame(0, 10, 30, 35, 10, 20, 5, 15, frame_len);
+    Switcher {
+        frame,
+        cur,
+        phase,
+        swapped,
+    }
+}
+
+fn show_strange() {
+    show_tick(b"window 4:", state(50, 4, SwPhase::Running, false), 9);
+    show_tick(b"marked:", state(50, 0, SwPhase::SaveCtx, true), 9);
+    show_tick(b"5 before 17:", state(51, 4, SwPhase::Running, false), 9);
 }
 
 fn main() {
     show_frames();
-    let s = Switcher::new(frame_a()).state;
-    show_steps(s);
-    show_switches(s);
-    show_marks(s);
-    show_strange(s);
+    show_lookups();
+    show_new(b"bad new:", frame(0, 10, 30, 35, 10, 20, 0, 15, 50));
+    let s = show_new(b"new:", frame_a());
+    let due = show_steps(s);
+    show_switches(due);
+    let next = show_marks(due);
+    show_switch(b"not due:", next, 0, 0, 0);
+    show_strange();
 }

@@ -32,7 +32,7 @@ unfolding refuseIf
 fault-found true r s e = refl
 fault-found false r s e = absurd (never-both e)
 
-own-refusal : (fault : Bool) (r s : Refusal) → refuseIf fault r ≡ Refused s → r ≡ s
+pub own-refusal : (fault : Bool) (r s : Refusal) → refuseIf fault r ≡ Refused s → r ≡ s
 unfolding refuseIf
 own-refusal true r s e = cc
 own-refusal false r s e = absurd (never-both e)

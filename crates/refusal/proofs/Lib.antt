@@ -1,2 +1,3 @@
 pub mod First
+pub mod Table
 pub mod Tests

@@ -1,9 +1,13 @@
 -- Each refusal has a number, a place (the window or the row that it concerns, else 0) and a host code: document 01,
 -- "Refusal numbers and their place", row by row.
+use mathlib.Core.Bool.{cond, _||_}
 use Prim.Native.Nat.{ℕ}
+use lib.Dec.{eqb}
 use lib.IntN.{ℤ}
 use Rattle.refusal.specs.declared.Refusal.{Refusal}
-use Rattle.refusal.specs.declared.Refusal.the-variants.{Counts, ZeroBudget, WrongStart, UnknownOwner, WrongLength, UnknownPartition, BadSize, BadBase, BadAccess, NinthRow, Clash, TickPastFrame, NoCallOpen, Stopped, NoWordsFor, LogTooShort, StrangeState}
+use Rattle.refusal.specs.declared.Refusal.the-variants.{Counts, ZeroBudget, WrongStart, UnknownOwner, WrongLength, UnknownPartition, BadSize, BadBase, BadAccess, NinthRow, Clash, TickPastFrame, NoCallOpen, MachineStopped, NoWordsFor, LogTooShort, StrangeState}
+use Rattle.refusal.specs.declared.Verdict.{Verdict}
+use Rattle.refusal.specs.declared.Verdict.the-variants.{Accepted, Refused}
 use Rattle.refusal.specs.Code.{EINVAL, ENOENT, ENOSPC, EADDRINUSE, EAGAIN, ECANCELED, EBADF}
 
 abbrev pub numberOf : Refusal → ℕ
@@ -20,7 +24,7 @@ numberOf (NinthRow r) = 10
 numberOf (Clash r) = 11
 numberOf TickPastFrame = 12
 numberOf NoCallOpen = 13
-numberOf Stopped = 14
+numberOf MachineStopped = 14
 numberOf NoWordsFor = 15
 numberOf LogTooShort = 16
 numberOf StrangeState = 17
@@ -39,26 +43,25 @@ placeOf (NinthRow r) = r
 placeOf (Clash r) = r
 placeOf TickPastFrame = 0
 placeOf NoCallOpen = 0
-placeOf Stopped = 0
+placeOf MachineStopped = 0
 placeOf NoWordsFor = 0
 placeOf LogTooShort = 0
 placeOf StrangeState = 0
 
+-- the host code of a number; the numbers that are not named, and later ones, have EINVAL
+unfoldable pub codeOf : ℕ → ℤ
+codeOf n =
+    cond (eqb n 4 || eqb n 6 || eqb n 15) ENOENT
+    (cond (eqb n 10 || eqb n 16) ENOSPC
+    (cond (eqb n 11) EADDRINUSE
+    (cond (eqb n 13) EAGAIN
+    (cond (eqb n 14) ECANCELED
+    (cond (eqb n 17) EBADF EINVAL)))))
+
 abbrev pub hostCodeOf : Refusal → ℤ
-hostCodeOf Counts = EINVAL
-hostCodeOf (ZeroBudget w) = EINVAL
-hostCodeOf (WrongStart w) = EINVAL
-hostCodeOf (UnknownOwner w) = ENOENT
-hostCodeOf (WrongLength w) = EINVAL
-hostCodeOf (UnknownPartition r) = ENOENT
-hostCodeOf (BadSize r) = EINVAL
-hostCodeOf (BadBase r) = EINVAL
-hostCodeOf (BadAccess r) = EINVAL
-hostCodeOf (NinthRow r) = ENOSPC
-hostCodeOf (Clash r) = EADDRINUSE
-hostCodeOf TickPastFrame = EINVAL
-hostCodeOf NoCallOpen = EAGAIN
-hostCodeOf Stopped = ECANCELED
-hostCodeOf NoWordsFor = ENOENT
-hostCodeOf LogTooShort = ENOSPC
-hostCodeOf StrangeState = EBADF
+hostCodeOf r = codeOf (numberOf r)
+
+-- a verdict in document 01's numbers: the number and the place of a refusal, 0 and 0 where it accepts
+abbrev pub outcome : Verdict → ℕ × ℕ
+outcome Accepted = (0, 0)
+outcome (Refused r) = (numberOf r, placeOf r)

@@ -23,7 +23,7 @@ pub enum Refusal {
     // of what is asked of an accepted plan
     TickPastFrame,
     NoCallOpen,
-    Stopped,
+    MachineStopped,
     NoWordsFor,
     LogTooShort,
     StrangeState,
@@ -53,7 +53,7 @@ pub fn number(r: Refusal) -> u32
         Refusal::Clash(_) => 11,
         Refusal::TickPastFrame => 12,
         Refusal::NoCallOpen => 13,
-        Refusal::Stopped => 14,
+        Refusal::MachineStopped => 14,
         Refusal::NoWordsFor => 15,
         Refusal::LogTooShort => 16,
         Refusal::StrangeState => 17,
@@ -78,34 +78,24 @@ pub fn place(r: Refusal) -> u32
         Refusal::Clash(row) => row,
         Refusal::TickPastFrame => 0,
         Refusal::NoCallOpen => 0,
-        Refusal::Stopped => 0,
+        Refusal::MachineStopped => 0,
         Refusal::NoWordsFor => 0,
         Refusal::LogTooShort => 0,
         Refusal::StrangeState => 0,
     }
 }
 
-// The code that the host's error interface knows it by.
+// The code that the host's error interface knows it by, as document 01's table gives it for each number.
 pub fn host_code(r: Refusal) -> i32
     ensures { λ e. ⌜ e ≡ hostCodeOf r ⌝ }
 {
-    match r {
-        Refusal::Counts => code::EINVAL,
-        Refusal::ZeroBudget(_) => code::EINVAL,
-        Refusal::WrongStart(_) => code::EINVAL,
-        Refusal::UnknownOwner(_) => code::ENOENT,
-        Refusal::WrongLength(_) => code::EINVAL,
-        Refusal::UnknownPartition(_) => code::ENOENT,
-        Refusal::BadSize(_) => code::EINVAL,
-        Refusal::BadBase(_) => code::EINVAL,
-        Refusal::BadAccess(_) => code::EINVAL,
-        Refusal::NinthRow(_) => code::ENOSPC,
-        Refusal::Clash(_) => code::EADDRINUSE,
-        Refusal::TickPastFrame => code::EINVAL,
-        Refusal::NoCallOpen => code::EAGAIN,
-        Refusal::Stopped => code::ECANCELED,
-        Refusal::NoWordsFor => code::ENOENT,
-        Refusal::LogTooShort => code::ENOSPC,
-        Refusal::StrangeState => code::EBADF,
+    match number(r) {
+        4 | 6 | 15 => code::ENOENT,
+        10 | 16 => code::ENOSPC,
+        11 => code::EADDRINUSE,
+        13 => code::EAGAIN,
+        14 => code::ECANCELED,
+        17 => code::EBADF,
+        _ => code::EINVAL,
     }
 }

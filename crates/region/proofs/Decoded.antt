@@ -1,7 +1,7 @@
 -- What a slot of the words covers and permits is what its row says, and a free slot covers nothing: the fields are read back, and the
 -- manual's rules are worked out on them.
 -- Assumes nothing.
-use mathlib.Core.Bool.{Bool, true, false, not, _&&_, and-true}
+use mathlib.Core.Bool.{Bool, true, false, not, _&&_, and-true, and-false}
 use mathlib.Core.Path.{_≡_, refl, sym, ap, _∙_}
 use Prim.Native.Nat.{ℕ, _+_, _-_, _*_, _/_, _%_, _^_, _≤_, _<_}
 use native.Mathlib.Nat.{zero-div, mul-assoc}
@@ -11,9 +11,9 @@ use borrow.Author.Tests.{eq-eqb, ne-eqb}
 use lib.Count.{trailingZeros}
 use lib.Dec.{leb, ltb, eqb}
 use lib.Pow.{pow-add, shl-shr}
-use Rattle.plan.specs.declared.Row.{Row}
-use Rattle.plan.specs.Plan.{writable, executable}
-use Rattle.plan.specs.Accepted.{MultipleOf}
+use Rattle.records.specs.declared.Row.{Row}
+use Rattle.records.specs.Records.{writable, executable}
+use Rattle.rows.specs.Addresses.{MultipleOf}
 use Rattle.region.specs.Slots.{Right, read, write, execute, allows, rowSlot, noSlot}
 use Rattle.region.specs.Manual.{rasrWord, rbarOf, rasrOf, sizeOf, baseOf, switchedOff, inRegion, mayRead, mayWrite, may, decode}
 use Rattle.region.specs.Words.{sizeField, apOf, xnOf, readAp, writeAp, rowRbar, rowRasr, rowPair, freePair, sums}
@@ -92,11 +92,7 @@ module _ (k : ℕ) (r : Row) (fit : InWords r) where
   none-off x =
       let i = (x - baseOf (rowRbar k r) (rowRasr r)) / (sizeOf (rowRasr r) / 8) in
       ap (λ (n : ℕ). leb 256 (sizeOf (rowRasr r)) && eqb n 1) (ap (λ (n : ℕ). n % 2) (zero-div (2 ^ i)))
-      ∙ never (leb 256 (sizeOf (rowRasr r)))
-    where
-      never : (b : Bool) → b && false ≡ false
-      never true = refl
-      never false = refl
+      ∙ and-false (leb 256 (sizeOf (rowRasr r)))
 
   in-region : (x : ℕ) → inRegion (rowRbar k r) (rowRasr r) x ≡ leb (r .base) x && ltb x (r .base + r .size)
   in-region x =

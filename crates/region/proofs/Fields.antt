@@ -27,7 +27,8 @@ same-rbar : {f g : Rbar} → f .addr ≡ g .addr → f .valid ≡ g .valid → f
 same-rbar addr valid region = λ j. record { addr = addr j; valid = valid j; region = region j }
 
 same-rasr : {f g : Rasr}
-    → f .xn ≡ g .xn → f .ap ≡ g .ap → f .tex ≡ g .tex → f .s ≡ g .s → f .c ≡ g .c → f .b ≡ g .b → f .srd ≡ g .srd → f .size ≡ g .size → f .enable ≡ g .enable → f ≡ g
+    → f .xn ≡ g .xn → f .ap ≡ g .ap → f .tex ≡ g .tex → f .s ≡ g .s → f .c ≡ g .c → f .b ≡ g .b → f .srd ≡ g .srd
+    → f .size ≡ g .size → f .enable ≡ g .enable → f ≡ g
 same-rasr xn ap tex s c b srd size enable =
     λ j. record { xn = xn j; ap = ap j; tex = tex j; s = s j; c = c j; b = b j; srd = srd j; size = size j; enable = enable j }
 

@@ -5,5 +5,6 @@ pub mod Reach
 pub mod Rows
 pub mod Separation
 pub mod SlotLaws
+pub mod Unit
 pub mod WordsLaws
 pub mod Zeros

@@ -6,9 +6,10 @@ use Prim.Native.Nat.{ℕ, _≤_, _<_}
 use native.Mathlib.Decide.{decLt}
 use native.Mathlib.Omega.{arith}
 use lib.ListN.{length, getD}
-use Rattle.plan.specs.Plan.{Plan, AllU32, maxPartition}
-use Rattle.plan.specs.Own.{noRow, ownRows}
-use Rattle.plan.specs.Accepted as declared
+use Rattle.plan.specs.Plan.{Plan, ownRows}
+use Rattle.records.specs.Records.{AllU32, maxPartition}
+use Rattle.own.specs.Own.{noRow}
+use Rattle.accepted.specs.Accepted as declared
 use Rattle.region.specs.Slots.{slotCount, rowSlot, noSlot, rowSlots, AsPlanned, Separated, NoTwoShare}
 use Rattle.region.specs.Manual.{decode, Mpu}
 use Rattle.region.specs.Words.{rowPair, freePair, pairAt, noPair, wordsOf, sums, slotsUnder, slotsIn}
@@ -19,7 +20,7 @@ use Rattle.region.proofs.Rows.{in-words}
 use Rattle.region.proofs.Programmed.{nothing-stays}
 use Rattle.region.proofs.Separation.{separated, no-two-share}
 
-module _ (p : Plan) (u32 : AllU32 (p .rows)) (a : declared.Accepted p) where
+module _ (p : Plan) (u32 : AllU32 (p .rows)) (a : declared.AcceptedIf p) where
   -- a slot with a row has document 01's sums
   pub as-summed : (q : ℕ) → q ≤ maxPartition → (k : ℕ) → k < length (ownRows p q)
       → getD (wordsOf p q .slots) k noPair ≡ sums k (getD (ownRows p q) k noRow)
@@ -50,11 +51,5 @@ module _ (p : Plan) (u32 : AllU32 (p .rows)) (a : declared.Accepted p) where
   pub separation : Separated (slotsUnder p) (slotsUnder p)
   separation = separated p a as-planned as-planned
 
-  pub separation-in-unit : (mpu mpu′ : Mpu) → Separated (slotsIn mpu p) (slotsIn mpu′ p)
-  separation-in-unit mpu mpu′ = separated p a (as-programmed mpu) (as-programmed mpu′)
-
   pub no-overlap : NoTwoShare (slotsUnder p)
   no-overlap = no-two-share p a as-planned
-
-  pub no-overlap-in-unit : (mpu : Mpu) → NoTwoShare (slotsIn mpu p)
-  no-overlap-in-unit mpu = no-two-share p a (as-programmed mpu)

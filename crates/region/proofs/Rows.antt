@@ -4,17 +4,19 @@ use mathlib.Core.Path.{_≡_, ap, _∙_}
 use Prim.Native.Nat.{ℕ, suc, _-_, _^_, _<_}
 use native.Mathlib.Omega.{arith}
 use lib.ListN.{length, getD}
-use Rattle.plan.specs.declared.Row.{Row}
-use Rattle.plan.specs.Plan.{Plan, AllU32, maxRowsEach}
-use Rattle.plan.specs.Own.{noRow, packed, ownRows}
-use Rattle.plan.specs.Accepted as declared
-use Rattle.plan.proofs.OwnLaws.{sound, own-u32}
-use Rattle.plan.proofs.PaddedLaws.{padded-at}
+use Rattle.records.specs.declared.Row.{Row}
+use Rattle.plan.specs.Plan.{Plan, ownRows}
+use Rattle.records.specs.Records.{AllU32}
+use Rattle.rows.specs.Rows.{maxRowsEach}
+use Rattle.own.specs.Own.{noRow, packed}
+use Rattle.accepted.specs.Accepted as declared
+use Rattle.own.proofs.OwnLaws.{sound, own-u32}
+use Rattle.own.proofs.PaddedLaws.{padded-at}
 use Rattle.region.specs.Parts.{EvenSizes}
 use Rattle.region.proofs.Zeros.{zeros-of-even, exponent-from, exponent-below}
 use Rattle.region.proofs.Decoded.{InWords}
 
-module _ (p : Plan) (a : declared.Accepted p) (q : ℕ) where
+module _ (p : Plan) (a : declared.AcceptedIf p) (q : ℕ) where
   -- a size is a power of two, 32 at least
   pub even-sizes : EvenSizes (packed (ownRows p q))
   unfolding packed

@@ -16,15 +16,16 @@ use Rattle.refusal.specs.declared.Verdict.{Verdict}
 use Rattle.refusal.specs.declared.Verdict.the-variants.{Accepted, Refused}
 use Rattle.refusal.specs.First.{refuseIf, orElse}
 use Rattle.refusal.proofs.Tests.{either-at-most}
-use Rattle.plan.specs.declared.Row.{Row}
-use Rattle.plan.specs.Plan.{Plan, maxPartition, writable, executable}
+use Rattle.records.specs.declared.Row.{Row}
+use Rattle.plan.specs.Plan.{Plan, ownRows}
+use Rattle.records.specs.Records.{maxPartition, writable, executable}
 use Rattle.plan.specs.Faults.{verdictOf}
-use Rattle.plan.specs.Own.{padded, packed, ownRows}
-use Rattle.plan.specs.Accepted as declared
-use Rattle.plan.specs.Equal.{EqualBut}
-use Rattle.plan.proofs.AcceptedLaws.{all-accepted}
-use Rattle.plan.proofs.EqualLaws.{equal-rows}
-use Rattle.plan.proofs.PaddedLaws.{one-more, full}
+use Rattle.own.specs.Own.{padded, packed}
+use Rattle.accepted.specs.Accepted as declared
+use Rattle.accepted.specs.Equal.{EqualBut}
+use Rattle.accepted.proofs.AcceptedLaws.{all-accepted}
+use Rattle.accepted.proofs.EqualLaws.{equal-rows}
+use Rattle.own.proofs.PaddedLaws.{one-more, full}
 use Rattle.region.specs.declared.Pair.{Pair}
 use Rattle.region.specs.declared.Words.{Words}
 use Rattle.region.specs.Slots.{slotCount}
@@ -94,12 +95,12 @@ module _ (p : Plan) (q : ℕ) where
   words-found e h = (λ j. answer (orElse (e j) (refuseIf (le-ltb maxPartition q h j) NoWordsFor)) (ownRows p q))
 
 -- slot k of the words
-pub words-slot : (p : Plan) (q : ℕ) → declared.Accepted p → q ≤ maxPartition → (k : ℕ) → k < slotCount
+pub words-slot : (p : Plan) (q : ℕ) → declared.AcceptedIf p → q ≤ maxPartition → (k : ℕ) → k < slotCount
     → getD (wordsOf p q .slots) k noPair ≡ pairAt (ownRows p q) k
 words-slot p q a known k h =
     ap (λ (w : Words). getD (w .slots) k noPair) (words-found p q (all-accepted p a) known) ∙ slot-of-words (pairAt (ownRows p q)) slotCount k noPair h
 
-pub equal-words : {q : ℕ} {p p′ : Plan} → declared.Accepted p → declared.Accepted p′ → EqualBut q p p′ → EqualWordsBut q p p′
+pub equal-words : {q : ℕ} {p p′ : Plan} → declared.AcceptedIf p → declared.AcceptedIf p′ → EqualBut q p p′ → EqualWordsBut q p p′
 unfolding wordsOf wordsVerdict
 equal-words {q} {p} {p′} a a′ same other apart =
     let both = all-accepted p a ∙ sym (all-accepted p′ a′) in

@@ -1,4 +1,5 @@
 pub mod Manual
 pub mod Parts
 pub mod Slots
+pub mod Unit
 pub mod Words

@@ -1,9 +1,9 @@
--- The region registers MPU_RBAR and MPU_RASR of the ARMv7-M manual (PMSAv7): where their fields stand in a word, and what a slot with two
--- such words covers and permits to unprivileged code.
-use mathlib.Core.Bool.{Bool, cond, not, _&&_, _||_}
+-- The region registers MPU_RBAR and MPU_RASR of the ARMv7-M manual (PMSAv7): where their fields stand in a word, what a slot with two such
+-- words covers and permits to unprivileged code, and what a unit with such regions lets it do at an address.
+use mathlib.Core.Bool.{Bool, true, false, cond, not, _&&_, _||_}
 use mathlib.Core.List.{List, [], _∷_}
 use mathlib.Core.Path.{_≡_}
-use Prim.Native.Nat.{ℕ, _+_, _-_, _*_, _/_, _%_, _^_}
+use Prim.Native.Nat.{ℕ, zero, suc, _+_, _-_, _*_, _/_, _%_, _^_, _<_}
 use lib.Dec.{leb, ltb, eqb}
 use Rattle.region.specs.declared.Pair.{Pair}
 use Rattle.region.specs.Slots.{Right, read, write, execute, Slot}
@@ -88,7 +88,7 @@ unfoldable pub decode : Pair → Slot
 decode w =
     record { covers = inRegion (rbarOf (w .first)) (rasrOf (w .second)); permits = may (rasrOf (w .second)) }
 
--- the protection unit: which region MPU_RNR selects, and the two words of each region
+-- the protection unit, switched on: which region MPU_RNR selects, and the two words of each region
 pub record Mpu : Type 0 where
   pub selected : ℕ
   pub regions : ℕ → Pair
@@ -111,3 +111,23 @@ programmed mpu (w ∷ pairs) = programmed (written mpu w) pairs
 pub record Names (w : Pair) (k : ℕ) : Type 0 where
   pub valid : rbarOf (w .first) .valid ≡ 1
   pub region : rbarOf (w .first) .region ≡ k
+
+-- a region that is switched off: it covers nothing
+abbrev pub Off : Mpu → ℕ → Type 0
+Off mpu k = rasrOf (mpu .regions k .second) .enable ≡ 0
+
+-- whether the regions 0, 1, .., count - 1 let unprivileged code do that at address x: the highest-numbered region that covers x decides,
+-- and where none covers it nothing is permitted (the default map behind PRIVDEFENA is for privileged code alone). In system space, from
+-- 0xE0000000 up, the processor itself permits less: nothing there is executed, and the private peripheral bus has its own rule
+unfoldable pub unprivileged : Mpu → (count : ℕ) → Right → (x : ℕ) → Bool
+unprivileged mpu zero right x = false
+unprivileged mpu (suc n) right x =
+    cond (decode (mpu .regions n) .covers x) (decode (mpu .regions n) .permits right) (unprivileged mpu n right x)
+
+-- the same in words: one of the regions covers x and permits that, and none above it covers x
+pub record HighestPermits (mpu : Mpu) (count : ℕ) (right : Right) (x : ℕ) : Type 0 where
+  pub region : ℕ
+  pub in-range : region < count
+  pub covered : decode (mpu .regions region) .covers x ≡ true
+  pub permitted : decode (mpu .regions region) .permits right ≡ true
+  pub none-above : (k : ℕ) → region < k → k < count → decode (mpu .regions k) .covers x ≡ true → ⊥

@@ -3,8 +3,8 @@
 use Prim.Native.Nat.{ℕ, _<_}
 use lib.Count.{trailingZeros}
 use lib.ListN.{getD}
-use Rattle.plan.specs.declared.own.OwnRows.{OwnRows}
-use Rattle.plan.specs.Own.{noRow}
+use Rattle.own.specs.declared.OwnRows.{OwnRows}
+use Rattle.own.specs.Own.{noRow}
 use Rattle.region.specs.declared.Pair.{Pair}
 use Rattle.region.specs.Slots.{atSlot}
 use Rattle.region.specs.Words.{rowPair, freePair}

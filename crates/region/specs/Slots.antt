@@ -6,9 +6,10 @@ use mathlib.Core.Path.{_≡_}
 use Prim.Native.Nat.{ℕ, _+_, _≤_, _<_}
 use lib.Dec.{leb, ltb, eqb}
 use lib.ListN.{length, getD}
-use Rattle.plan.specs.declared.Row.{Row}
-use Rattle.plan.specs.Plan.{Plan, maxPartition, writable, executable}
-use Rattle.plan.specs.Own.{noRow, ownRows}
+use Rattle.records.specs.declared.Row.{Row}
+use Rattle.plan.specs.Plan.{Plan, ownRows}
+use Rattle.records.specs.Records.{maxPartition, writable, executable}
+use Rattle.own.specs.Own.{noRow}
 
 abbrev pub slotCount : ℕ
 slotCount = 8
@@ -20,8 +21,8 @@ pub record Slot : Type 0 where
   pub covers : ℕ → Bool
   pub permits : Right → Bool
 
--- address x is reached with a right if one of the slots covers it and permits that
-pub record Reached (slots : ℕ → Slot) (right : Right) (x : ℕ) : Type 0 where
+-- address x can be reached with a right if one of the slots covers it and permits that
+pub record Reachable (slots : ℕ → Slot) (right : Right) (x : ℕ) : Type 0 where
   pub slot : ℕ
   pub in-range : slot < slotCount
   pub covered : slots slot .covers x ≡ true
@@ -54,7 +55,7 @@ AsPlanned p slots = (q : ℕ) → q ≤ maxPartition → (k : ℕ) → k < slotC
 abbrev pub Separated : (slots others : ℕ → ℕ → Slot) → Type 0
 Separated slots others =
     (q other : ℕ) → q ≤ maxPartition → other ≤ maxPartition → (q ≡ other → ⊥)
-    → (right : Right) (x : ℕ) → Reached (slots q) write x → Reached (others other) right x → ⊥
+    → (right : Right) (x : ℕ) → Reachable (slots q) write x → Reachable (others other) right x → ⊥
 
 -- no two slots of one partition share an address
 abbrev pub NoTwoShare : (ℕ → ℕ → Slot) → Type 0

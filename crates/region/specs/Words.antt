@@ -10,10 +10,10 @@ use Rattle.refusal.specs.declared.Refusal.the-variants.{NoWordsFor}
 use Rattle.refusal.specs.declared.Verdict.{Verdict}
 use Rattle.refusal.specs.declared.Verdict.the-variants.{Accepted, Refused}
 use Rattle.refusal.specs.First.{refuseIf, orElse}
-use Rattle.plan.specs.declared.Row.{Row}
-use Rattle.plan.specs.Plan.{Plan, maxPartition, writable, executable}
+use Rattle.records.specs.declared.Row.{Row}
+use Rattle.plan.specs.Plan.{Plan, ownRows}
+use Rattle.records.specs.Records.{maxPartition, writable, executable}
 use Rattle.plan.specs.Faults.{verdictOf}
-use Rattle.plan.specs.Own.{ownRows}
 use Rattle.region.specs.declared.Pair.{Pair}
 use Rattle.region.specs.declared.Words.{Words}
 use Rattle.region.specs.Manual.{Rbar, Rasr, rbarWord, rasrWord, decode, Mpu, programmed}

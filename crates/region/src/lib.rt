@@ -5,9 +5,10 @@ ghost use Rattle.plan.specs.Plan.{planOf};
 ghost use Rattle.region.specs.Slots.{slotCount};
 ghost use Rattle.region.specs.Words.{upTo, noWords, wordsOf};
 ghost use Rattle.region.specs.Parts.{EvenSizes, slotAt};
+use own::OwnRows;
+use own::own_rows;
 use plan::Frame;
-use plan::PartitionNo;
-use plan::own::OwnRows;
+use records::PartitionNo;
 use refusal::Refusal;
 use refusal::Verdict;
 
@@ -73,7 +74,7 @@ fn no_words(verdict: Verdict) -> Words
 pub fn words_of(frame: Frame, windows: &[u32], rows: &[u32], partition: PartitionNo) -> Words
     ensures { λ w. ⌜ w ≡ wordsOf (planOf frame (now (windows .entry)) (now (rows .entry))) (partition .0) ⌝ }
 {
-    let owned = frame.own_rows(windows, rows, partition);
+    let owned = own_rows(frame, windows, rows, partition);
     let verdict = owned.verdict;
     let Verdict::Accepted = verdict else {
         return no_words(verdict);

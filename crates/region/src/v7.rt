@@ -5,7 +5,7 @@ ghost use lib.Count.{trailingZeros};
 ghost use Rattle.region.specs.Slots.{slotCount};
 ghost use Rattle.region.specs.Words.{apOf, xnOf, rowPair, freePair};
 use crate::Pair;
-use plan::Row;
+use records::Row;
 
 // Where the fields start: in the first word ADDR and VALID, in the second XN, AP, TEX, SIZE and ENABLE.
 const ADDR: u32 = 0x20;

@@ -4,28 +4,31 @@ use mathlib.Core.Bool.{true, false}
 use mathlib.Core.Path.{_≡_, refl, sym, ap, _∙_}
 use Prim.Native.Nat.{ℕ}
 use Rattle.refusal.specs.declared.Refusal.{Refusal}
-use Rattle.refusal.specs.declared.Refusal.the-variants.{NoCallOpen, Stopped as MachineStopped}
+use Rattle.refusal.specs.declared.Refusal.the-variants.{NoCallOpen, MachineStopped}
 use Rattle.refusal.specs.declared.Verdict.{Verdict}
 use Rattle.refusal.specs.declared.Verdict.the-variants.{Accepted, Refused}
 use Rattle.refusal.proofs.First.{never-both}
 use Rattle.plan.specs.Plan.{Plan}
-use Rattle.plan.specs.Accepted as plan
-use Rattle.plan.proofs.AcceptedLaws.{all-accepted}
-use Rattle.switch.specs.declared.state.Stage.{Stage}
-use Rattle.switch.specs.declared.state.Stage.the-variants.{Running, SaveCtx, ProgramRegions, Resume}
-use Rattle.switch.specs.declared.state.Cause.{Cause}
-use Rattle.switch.specs.declared.state.Phase.the-variants.{At, Stopped}
-use Rattle.switch.specs.declared.state.State.{State}
-use Rattle.switch.specs.declared.machine.Answer.{Answer}
-use Rattle.switch.specs.State.{resumed, callOpen, isStopped, runs}
-use Rattle.switch.specs.Step.{timetableOf, quiet, swap, resume, tickMove, zeroMove, statusMove}
+use Rattle.accepted.specs.Accepted as plan
+use Rattle.accepted.proofs.AcceptedLaws.{all-accepted}
+use Rattle.protocol.specs.declared.Stage.{Stage}
+use Rattle.protocol.specs.declared.Stage.the-variants.{Running, SaveCtx, ProgramRegions, Resume}
+use Rattle.protocol.specs.declared.Cause.{Cause}
+use Rattle.protocol.specs.declared.Phase.the-variants.{At, Stopped}
+use Rattle.switch.specs.declared.State.{State}
+use Rattle.switch.specs.declared.Answer.{Answer}
+use Rattle.protocol.specs.Phase.{callOpen, isStopped, runs}
+use Rattle.switch.specs.State.{resumed}
+use Rattle.switch.specs.Step.{timetableOf, quiet, refusedAnswer, swap, resume, tickMove, zeroAt, statusMove}
 use Rattle.switch.specs.Guard.{guardOf}
-use Rattle.switch.specs.Machine.{refusedAnswer, answer, tickOf, statusVerdict, statusOf}
+use Rattle.switch.specs.Machine.{ifAccepted, tickOf, statusVerdict, statusOf}
 use Rattle.switch.specs.Reached.{Event, tick, status, moveOf}
-use Rattle.switch.specs.History.{History, answerOf, goOn, next}
+use Rattle.switch.specs.History.{History, answerOf, machineOf, goOn, next}
 use Rattle.switch.proofs.StepLaws.{status-zero}
-use Rattle.switch.proofs.MachineLaws.{guard-stopped, guard-accepted, tick-refused, tick-accepted, status-refused, status-unasked, status-accepted}
-use Rattle.switch.proofs.Cases.{TickCase, window-goes-on, window-ends, wrong-tick, tick-in-a-switch, tick-too-late, tick-case, StatusCase, saved, programmed, runs-again, bad-status, status-unasked-for, status-too-late, status-case}
+use Rattle.switch.proofs.GuardLaws.{guard-stopped, guard-accepted}
+use Rattle.switch.proofs.MachineLaws.{tick-refused, tick-accepted, status-refused, status-unasked, status-accepted}
+use Rattle.switch.specs.Cases.{TickCase, window-goes-on, window-ends, wrong-tick, tick-in-a-switch, tick-too-late, StatusCase, saved, programmed, runs-again, bad-status, status-unasked-for, status-too-late}
+use Rattle.switch.proofs.Cases.{tick-case, status-case}
 use Rattle.switch.proofs.Fits.{Fits, fits-says}
 
 -- a step by itself refuses nothing
@@ -49,9 +52,9 @@ step-accepts p s (status word) = of (status-case (p .windows) s word)
     of (status-too-late stage cause e to) = ap (λ (x : Answer). x .verdict) to
 
 -- a refusal hands back the state that came and asks for nothing, whatever came
-refused-back : (v : Verdict) (s : State) (to : Answer) (r : Refusal) → to .verdict ≡ Accepted → answer v s to .verdict ≡ Refused r
-    → answer v s to ≡ refusedAnswer s (Refused r)
-unfolding answer
+refused-back : (v : Verdict) (s : State) (to : Answer) (r : Refusal) → to .verdict ≡ Accepted → ifAccepted v s to .verdict ≡ Refused r
+    → ifAccepted v s to ≡ refusedAnswer s (Refused r)
+unfolding ifAccepted
 refused-back Accepted s to r fine e = absurd (never-both (sym fine ∙ e))
 refused-back (Refused x) s to r fine e = ap (refusedAnswer s) e
 
@@ -66,10 +69,10 @@ no-trace : (h : History) (e : Event) (r : Refusal) → goOn h e (refusedAnswer (
 no-trace h (tick t) r = refl
 no-trace h (status word) r = refl
 
-pub refused-not-counted : (p : Plan) (h : History) (e : Event) (r : Refusal) → answerOf p (h .state) e .verdict ≡ Refused r → next p h e ≡ h
+pub refused-not-counted : (p : Plan) (h : History) (e : Event) (r : Refusal) → answerOf p (h .state) e .verdict ≡ Refused r → next (machineOf p) h e ≡ h
 refused-not-counted p h e r refusal = ap (goOn h e) (refused-changes-nothing p (h .state) e r refusal) ∙ no-trace h e r
 
-module _ (p : Plan) (a : plan.Accepted p) (s : State) (f : Fits p s) where
+module _ (p : Plan) (a : plan.AcceptedIf p) (s : State) (f : Fits p s) where
   goes : {stage : Stage} → s .phase ≡ At stage → guardOf p s ≡ Accepted
   goes e = guard-accepted p s (all-accepted p a) (fits-says p s .1 f) (ap isStopped e)
 
@@ -95,13 +98,13 @@ module _ (p : Plan) (a : plan.Accepted p) (s : State) (f : Fits p s) where
 
   -- a zero for each of the three calls
   pub zero-swaps : s .phase ≡ At SaveCtx → statusOf p s 0 ≡ swap (p .windows) s
-  unfolding zeroMove
-  zero-swaps e = on-status e refl 0 (status-zero (p .windows) s 0 SaveCtx e refl)
+  unfolding zeroAt
+  zero-swaps e = on-status e refl 0 (status-zero (p .windows) s 0 SaveCtx e refl refl)
 
   pub zero-resumes : s .phase ≡ At ProgramRegions → statusOf p s 0 ≡ resume (p .windows) s
-  unfolding zeroMove
-  zero-resumes e = on-status e refl 0 (status-zero (p .windows) s 0 ProgramRegions e refl)
+  unfolding zeroAt
+  zero-resumes e = on-status e refl 0 (status-zero (p .windows) s 0 ProgramRegions e refl refl)
 
   pub zero-runs : s .phase ≡ At Resume → statusOf p s 0 ≡ quiet (resumed s)
-  unfolding zeroMove
-  zero-runs e = on-status e refl 0 (status-zero (p .windows) s 0 Resume e refl)
+  unfolding zeroAt
+  zero-runs e = on-status e refl 0 (status-zero (p .windows) s 0 Resume e refl refl)

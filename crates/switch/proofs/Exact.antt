@@ -5,18 +5,18 @@ use mathlib.Core.Logic.{_↔_}
 use mathlib.Core.Path.{_≡_, subst}
 use Prim.Native.Nat.{ℕ, _+_, _≤_, _<_}
 use native.Mathlib.Omega.{arith}
-use Rattle.refusal.specs.declared.Verdict.the-variants.{Accepted}
 use Rattle.plan.specs.Plan.{Plan, frameLength, windowCount}
-use Rattle.plan.specs.Accepted as plan
-use Rattle.switch.specs.declared.state.State.{State}
+use Rattle.accepted.specs.Accepted as plan
+use Rattle.protocol.specs.Phase.{keptWord}
+use Rattle.switch.specs.declared.State.{State}
 use Rattle.switch.specs.Step.{coldMove}
 use Rattle.switch.specs.Guard.{fits}
-use Rattle.switch.specs.Reached.{Reached, ReachedWithin, keptWord}
+use Rattle.switch.specs.Reached.{Reached, ReachedWithin}
 use Rattle.switch.proofs.Fits.{Fits, fits-says}
 use Rattle.switch.proofs.Preserved.{cold-fits, leads-fits}
 use Rattle.switch.proofs.Reach.{fits-reached}
 
-module _ (p : Plan) (a : plan.Accepted p) (s : State) where
+module _ (p : Plan) (a : plan.AcceptedIf p) (s : State) where
   reached-fits : Reached p s → Fits p s
   unfolding coldMove
   reached-fits (events, there) = subst (Fits p) there (leads-fits p a _ (cold-fits p a) events)

@@ -9,24 +9,25 @@ use Rattle.refusal.specs.declared.Refusal.{Refusal}
 use Rattle.refusal.specs.declared.Verdict.the-variants.{Accepted, Refused}
 use Rattle.timeline.specs.Windows.{nextTick}
 use Rattle.timeline.proofs.Laws.{next-tick, some-ticks}
-use Rattle.plan.specs.declared.PartitionNo.{PartitionNo}
 use Rattle.plan.specs.Plan.{Plan, frameLength}
-use Rattle.plan.specs.Accepted as plan
-use Rattle.plan.proofs.AcceptedLaws.{all-accepted}
-use Rattle.plan.proofs.LookupLaws.{follow}
-use Rattle.switch.specs.declared.call.Call.the-variants.{Save, Swap, Resume as ResumeCall}
-use Rattle.switch.specs.declared.state.Stage.the-variants.{Running, SaveCtx, ProgramRegions, Resume}
-use Rattle.switch.specs.declared.state.Phase.{Phase}
-use Rattle.switch.specs.declared.state.Phase.the-variants.{At, Stopped}
-use Rattle.switch.specs.declared.state.State.{State}
-use Rattle.switch.specs.declared.machine.Answer.{Answer}
-use Rattle.switch.specs.State.{cold, isStopped}
+use Rattle.accepted.specs.Accepted as plan
+use Rattle.accepted.proofs.AcceptedLaws.{all-accepted}
+use Rattle.accepted.proofs.FollowLaws.{follow}
+use Rattle.protocol.specs.Numbers.{saveFor, swapFor, resumeFor}
+use Rattle.protocol.specs.declared.Stage.the-variants.{Running, SaveCtx, ProgramRegions, Resume}
+use Rattle.protocol.specs.declared.Phase.{Phase}
+use Rattle.protocol.specs.declared.Phase.the-variants.{At, Stopped}
+use Rattle.switch.specs.declared.State.{State}
+use Rattle.switch.specs.declared.Answer.{Answer}
+use Rattle.protocol.specs.Phase.{isStopped}
+use Rattle.switch.specs.State.{cold}
 use Rattle.switch.specs.Step.{timetableOf, owner, coldMove, tickMove, statusMove}
 use Rattle.switch.specs.Machine.{coldOf, tickOf, statusOf}
 use Rattle.switch.specs.Reached.{Event, tick, status, moveOf, leads}
-use Rattle.switch.specs.History.{Entry, called, answered, History, answerOf, counted, start, goOn, next, since, history}
+use Rattle.switch.specs.History.{Machine, answerOf, machineOf, Entry, called, answered, History, counted, begin, goOn, next, since, history}
 use Rattle.switch.proofs.MachineLaws.{cold-accepted}
-use Rattle.switch.proofs.Cases.{TickCase, window-goes-on, window-ends, wrong-tick, tick-in-a-switch, tick-too-late, tick-case, StatusCase, saved, programmed, runs-again, bad-status, status-unasked-for, status-too-late, status-case, onward}
+use Rattle.switch.specs.Cases.{TickCase, window-goes-on, window-ends, wrong-tick, tick-in-a-switch, tick-too-late, StatusCase, saved, programmed, runs-again, bad-status, status-unasked-for, status-too-late, onward}
+use Rattle.switch.proofs.Cases.{tick-case, status-case}
 use Rattle.switch.proofs.Fits.{Fits}
 use Rattle.switch.proofs.Preserved.{move-fits, cold-fits}
 use Rattle.switch.proofs.Answers.{too-late, on-tick, on-status, unasked, refused-not-counted}
@@ -36,29 +37,29 @@ goes-there : {x y to also : Answer} → x ≡ to → y ≡ also → to .state �
 goes-there e f same = ap (λ (x : Answer). x .state) e ∙ same ∙ sym (ap (λ (x : Answer). x .state) f)
 
 -- events, and more of them
-pub since-on : (p : Plan) (h : History) (events more : List Event) → since p h (events ++ more) ≡ since p (since p h events) more
-since-on p h [] more = refl
-since-on p h (e ∷ events) more = since-on p (next p h e) events more
+pub since-on : (m : Machine) (h : History) (events more : List Event) → since m h (events ++ more) ≡ since m (since m h events) more
+since-on m h [] more = refl
+since-on m h (e ∷ events) more = since-on m (next m h e) events more
 
 -- the last calls and answers, by the phase: what has been asked, and what has been answered zero
-abbrev pub Talk : (outgoing incoming : PartitionNo) → List Entry → Phase → Type 0
-Talk outgoing incoming calls (At Running) =
-    (earlier : List Entry) × (calls ≡ answered 0 ∷ called (ResumeCall outgoing) ∷ answered 0 ∷ called (Swap outgoing) ∷ earlier)
-Talk outgoing incoming calls (At SaveCtx) = (earlier : List Entry) × (calls ≡ called (Save outgoing) ∷ earlier)
-Talk outgoing incoming calls (At ProgramRegions) = (earlier : List Entry) × (calls ≡ called (Swap incoming) ∷ earlier)
-Talk outgoing incoming calls (At Resume) =
-    (earlier : List Entry) × (calls ≡ called (ResumeCall incoming) ∷ answered 0 ∷ called (Swap incoming) ∷ earlier)
-Talk outgoing incoming calls (Stopped stage cause) = Unit {0}
+abbrev pub Talk : (outgoing incoming : ℕ) → List Entry → Phase → Type 0
+Talk outgoing incoming entries (At Running) =
+    (earlier : List Entry) × (entries ≡ answered 0 ∷ called (resumeFor outgoing) ∷ answered 0 ∷ called (swapFor outgoing) ∷ earlier)
+Talk outgoing incoming entries (At SaveCtx) = (earlier : List Entry) × (entries ≡ called (saveFor outgoing) ∷ earlier)
+Talk outgoing incoming entries (At ProgramRegions) = (earlier : List Entry) × (entries ≡ called (swapFor incoming) ∷ earlier)
+Talk outgoing incoming entries (At Resume) =
+    (earlier : List Entry) × (entries ≡ called (resumeFor incoming) ∷ answered 0 ∷ called (swapFor incoming) ∷ earlier)
+Talk outgoing incoming entries (Stopped stage cause) = Unit {0}
 
 abbrev pub TalkOf : Plan → State → List Entry → Phase → Type 0
-TalkOf p s calls phase = Talk (owner (p .windows) (s .current)) (owner (p .windows) (s .target)) calls phase
+TalkOf p s entries phase = Talk (owner (p .windows) (s .current) .0) (owner (p .windows) (s .target) .0) entries phase
 
 pub record Inv (p : Plan) (h : History) : Type 0 where
   pub fit : Fits p (h .state)
   pub in-time : h .state .due ≡ h .taken % frameLength p
-  pub talk : TalkOf p (h .state) (h .calls) (h .state .phase)
+  pub talk : TalkOf p (h .state) (h .entries) (h .state .phase)
 
-module _ (p : Plan) (a : plan.Accepted p) where
+module _ (p : Plan) (a : plan.AcceptedIf p) where
   -- what is due after one tick more
   next-due : (t N : ℕ) → t ≡ N % frameLength p → nextTick (frameLength p) t ≡ (N + 1) % frameLength p
   next-due t N e = ap (nextTick (frameLength p)) e ∙ next-tick N (frameLength p) (some-ticks (follow p a))
@@ -67,7 +68,7 @@ module _ (p : Plan) (a : plan.Accepted p) where
     -- a step is accepted, and what it says of the history
     accepts : (e : Event) {to : Answer} → answerOf p (h .state) e ≡ to → moveOf p (h .state) e ≡ to
         → goOn h e (to) .state .due ≡ goOn h e (to) .taken % frameLength p
-        → TalkOf p (to .state) (goOn h e (to) .calls) (to .state .phase) → Inv p (next p h e)
+        → TalkOf p (to .state) (goOn h e (to) .entries) (to .state .phase) → Inv p (next (machineOf p) h e)
     accepts e {to} says leads-to due talk =
         subst (λ (to : Answer). Inv p (goOn h e to)) (sym says)
         (record {
@@ -76,30 +77,30 @@ module _ (p : Plan) (a : plan.Accepted p) where
           talk = talk;
         })
 
-    refuses : (e : Event) {r : Refusal} → answerOf p (h .state) e .verdict ≡ Refused r → Inv p (next p h e)
+    refuses : (e : Event) {r : Refusal} → answerOf p (h .state) e .verdict ≡ Refused r → Inv p (next (machineOf p) h e)
     refuses e {r} says = subst (Inv p) (sym (refused-not-counted p h e r says)) i
 
-    tick-inv : (t : ℕ) → TickCase (timetableOf p) (h .state) t → Inv p (next p h (tick t))
+    tick-inv : (t : ℕ) → TickCase (timetableOf p) (h .state) t → Inv p (next (machineOf p) h (tick t))
     tick-inv t (window-goes-on e due more to) =
         accepts (tick t) (on-tick p a (h .state) (i .fit) e t to) to
         (next-due t (h .taken) (due ∙ i .in-time)
         ∙ ap (λ (phase : Phase). counted (tick t) Accepted (isStopped phase) (h .taken) % frameLength p) (sym e))
-        (subst (TalkOf p (onward (timetableOf p) (h .state) t) (h .calls)) (sym e) (subst (TalkOf p (h .state) (h .calls)) e (i .talk)))
+        (subst (TalkOf p (onward (timetableOf p) (h .state) t) (h .entries)) (sym e) (subst (TalkOf p (h .state) (h .entries)) e (i .talk)))
     tick-inv t (window-ends e due last to) =
-        accepts (tick t) (on-tick p a (h .state) (i .fit) e t to) to (next-due t (h .taken) (due ∙ i .in-time)) (h .calls, refl)
+        accepts (tick t) (on-tick p a (h .state) (i .fit) e t to) to (next-due t (h .taken) (due ∙ i .in-time)) (h .entries, refl)
     tick-inv t (wrong-tick e wrong to) = accepts (tick t) (on-tick p a (h .state) (i .fit) e t to) to (i .in-time) tt
     tick-inv t (tick-in-a-switch stage e waits to) = accepts (tick t) (on-tick p a (h .state) (i .fit) e t to) to (i .in-time) tt
     tick-inv t (tick-too-late stage cause e to) = refuses (tick t) (ap (λ (x : Answer). x .verdict) (too-late p a (h .state) (i .fit) e (tick t)))
 
-    status-inv : (word : ℕ) → StatusCase (p .windows) (h .state) word → Inv p (next p h (status word))
+    status-inv : (word : ℕ) → StatusCase (p .windows) (h .state) word → Inv p (next (machineOf p) h (status word))
     status-inv word (saved e zero to) =
         accepts (status word) (on-status p a (h .state) (i .fit) e refl word to) to (i .in-time) (_, refl)
     status-inv word (programmed e zero to) =
-        let (earlier, so-far) = subst (TalkOf p (h .state) (h .calls)) e (i .talk) in
+        let (earlier, so-far) = subst (TalkOf p (h .state) (h .entries)) e (i .talk) in
         accepts (status word) (on-status p a (h .state) (i .fit) e refl word to) to (i .in-time)
-        (earlier, λ k. called (ResumeCall (owner (p .windows) (h .state .target))) ∷ answered (zero k) ∷ so-far k)
+        (earlier, λ k. called (resumeFor (owner (p .windows) (h .state .target) .0)) ∷ answered (zero k) ∷ so-far k)
     status-inv word (runs-again e zero to) =
-        let (earlier, so-far) = subst (TalkOf p (h .state) (h .calls)) e (i .talk) in
+        let (earlier, so-far) = subst (TalkOf p (h .state) (h .entries)) e (i .talk) in
         accepts (status word) (on-status p a (h .state) (i .fit) e refl word to) to (i .in-time)
         (earlier, λ k. answered (zero k) ∷ so-far k)
     status-inv word (bad-status stage e waits bad to) =
@@ -107,24 +108,24 @@ module _ (p : Plan) (a : plan.Accepted p) where
     status-inv word (status-unasked-for e to) = refuses (status word) (ap (λ (x : Answer). x .verdict) (unasked p a (h .state) (i .fit) e word))
     status-inv word (status-too-late stage cause e to) = refuses (status word) (ap (λ (x : Answer). x .verdict) (too-late p a (h .state) (i .fit) e (status word)))
 
-    pub next-inv : (e : Event) → Inv p (next p h e)
+    pub next-inv : (e : Event) → Inv p (next (machineOf p) h e)
     next-inv (tick t) = tick-inv t (tick-case (timetableOf p) (h .state) t)
     next-inv (status word) = status-inv word (status-case (p .windows) (h .state) word)
 
-  pub start-phase : start (coldOf p) .state .phase ≡ At ProgramRegions
+  pub start-phase : begin (coldOf p) .state .phase ≡ At ProgramRegions
   unfolding coldMove
   start-phase = ap (λ (to : Answer). to .state .phase) (cold-accepted p (all-accepted p a))
 
-  pub start-inv : Inv p (start (coldOf p))
+  pub start-inv : Inv p (begin (coldOf p))
   unfolding coldMove
-  start-inv = subst (λ (to : Answer). Inv p (start to)) (sym (cold-accepted p (all-accepted p a))) (record { fit = cold-fits p a; in-time = sym (mod-eq-of-lt (some-ticks (follow p a))); talk = ([], refl) })
+  start-inv = subst (λ (to : Answer). Inv p (begin to)) (sym (cold-accepted p (all-accepted p a))) (record { fit = cold-fits p a; in-time = sym (mod-eq-of-lt (some-ticks (follow p a))); talk = ([], refl) })
 
-  pub since-inv : (h : History) → Inv p h → (events : List Event) → Inv p (since p h events)
+  pub since-inv : (h : History) → Inv p h → (events : List Event) → Inv p (since (machineOf p) h events)
   since-inv h i [] = i
-  since-inv h i (e ∷ events) = since-inv (next p h e) (next-inv h i e) events
+  since-inv h i (e ∷ events) = since-inv (next (machineOf p) h e) (next-inv h i e) events
 
-  pub history-inv : (events : List Event) → Inv p (history p events)
-  history-inv events = since-inv (start (coldOf p)) start-inv events
+  pub history-inv : (events : List Event) → Inv p (history (machineOf p) events)
+  history-inv events = since-inv (begin (coldOf p)) start-inv events
 
   -- the entry points lead where the step leads
   module _ (h : History) (i : Inv p h) where
@@ -144,21 +145,21 @@ module _ (p : Plan) (a : plan.Accepted p) where
     status-leads word (status-unasked-for e to) = goes-there (unasked p a (h .state) (i .fit) e word) to refl
     status-leads word (status-too-late stage cause e to) = goes-there (too-late p a (h .state) (i .fit) e (status word)) to refl
 
-    next-leads : (e : Event) → next p h e .state ≡ moveOf p (h .state) e .state
+    next-leads : (e : Event) → next (machineOf p) h e .state ≡ moveOf p (h .state) e .state
     next-leads (tick t) = tick-leads t (tick-case (timetableOf p) (h .state) t)
     next-leads (status word) = status-leads word (status-case (p .windows) (h .state) word)
 
-  since-leads : (h : History) → Inv p h → (events : List Event) → since p h events .state ≡ leads p (h .state) events
+  since-leads : (h : History) → Inv p h → (events : List Event) → since (machineOf p) h events .state ≡ leads p (h .state) events
   unfolding leads
   since-leads h i [] = refl
   since-leads h i (e ∷ events) =
-      since-leads (next p h e) (next-inv h i e) events ∙ ap (λ (s : State). leads p s events) (next-leads h i e)
+      since-leads (next (machineOf p) h e) (next-inv h i e) events ∙ ap (λ (s : State). leads p s events) (next-leads h i e)
 
-  pub history-leads : (events : List Event) → history p events .state ≡ leads p (coldMove (p .windows) .state) events
+  pub history-leads : (events : List Event) → history (machineOf p) events .state ≡ leads p (coldMove (p .windows) .state) events
   history-leads events =
-      since-leads (start (coldOf p)) start-inv events
+      since-leads (begin (coldOf p)) start-inv events
       ∙ ap (λ (to : Answer). leads p (to .state) events) (cold-accepted p (all-accepted p a))
 
-  pub start-is : start (coldOf p) ≡ record { state = cold; taken = 0; calls = called (Swap (owner (p .windows) (cold .target))) ∷ [] }
+  pub start-is : begin (coldOf p) ≡ record { state = cold; taken = 0; entries = called (swapFor (owner (p .windows) (cold .target) .0)) ∷ [] }
   unfolding coldMove
-  start-is = ap start (cold-accepted p (all-accepted p a))
+  start-is = ap begin (cold-accepted p (all-accepted p a))

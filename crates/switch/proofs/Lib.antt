@@ -5,9 +5,8 @@ pub mod Exact
 pub mod Fits
 pub mod GuardLaws
 pub mod HistoryLaws
-pub mod Preserved
 pub mod MachineLaws
-pub mod NumbersLaws
+pub mod Preserved
 pub mod Reach
 pub mod StateLaws
 pub mod StepLaws

@@ -7,18 +7,20 @@ use Prim.Native.Nat.{ℕ, _+_, _<_}
 use native.Mathlib.Omega.{arith}
 use Rattle.timeline.specs.Windows.{nextWindow, nextTick}
 use Rattle.timeline.proofs.Laws.{next-starts, next-is-window, goes-on, first-holds}
-use Rattle.plan.specs.Plan.{Plan, endOf, frameLength, windowCount, windowOf}
-use Rattle.plan.specs.Accepted.{Accepted}
-use Rattle.plan.proofs.LookupLaws.{follow}
-use Rattle.switch.specs.declared.state.State.{State}
-use Rattle.switch.specs.declared.machine.Answer.{Answer}
+use Rattle.plan.specs.Plan.{Plan, frameLength, windowCount, windowOf}
+use Rattle.records.specs.Records.{endOf}
+use Rattle.accepted.specs.Accepted.{AcceptedIf}
+use Rattle.accepted.proofs.FollowLaws.{follow}
+use Rattle.switch.specs.declared.State.{State}
+use Rattle.switch.specs.declared.Answer.{Answer}
 use Rattle.switch.specs.State.{cold}
 use Rattle.switch.specs.Step.{timetableOf, tickMove, statusMove}
 use Rattle.switch.specs.Reached.{Event, tick, status, moveOf, leads}
-use Rattle.switch.proofs.Cases.{TickCase, window-goes-on, window-ends, wrong-tick, tick-in-a-switch, tick-too-late, tick-case, StatusCase, saved, programmed, runs-again, bad-status, status-unasked-for, status-too-late, status-case, onward}
+use Rattle.switch.specs.Cases.{TickCase, window-goes-on, window-ends, wrong-tick, tick-in-a-switch, tick-too-late, StatusCase, saved, programmed, runs-again, bad-status, status-unasked-for, status-too-late, onward}
+use Rattle.switch.proofs.Cases.{tick-case, status-case}
 use Rattle.switch.proofs.Fits.{InWindow, Between, AtStart, FitsPhase, Fits}
 
-module _ (p : Plan) (a : Accepted p) where
+module _ (p : Plan) (a : AcceptedIf p) where
   -- where a switch leads, the due tick is in the window
   arrives : {current target due : ℕ} → AtStart current target due ⊎ Between p current target due → InWindow p target target due
   arrives {current} {target} {due} (inl w) =

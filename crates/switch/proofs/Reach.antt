@@ -10,20 +10,22 @@ use native.Mathlib.Decide.{ℕ-discrete}
 use native.Mathlib.Omega.{arith}
 use Rattle.timeline.specs.Windows.{Holds, nextWindow, nextTick}
 use Rattle.timeline.proofs.Laws.{exactly-one, share-no-tick, holds-in-frame, next-starts, next-holds, next-is-window, next-tick-below, first-holds, some-ticks}
-use Rattle.plan.specs.Plan.{Plan, endOf, frameLength, windowCount, windowOf, offsetOf, budgetOf}
-use Rattle.plan.specs.Accepted.{Accepted}
-use Rattle.plan.proofs.LookupLaws.{follow}
-use Rattle.switch.specs.declared.state.Stage.{Stage}
-use Rattle.switch.specs.declared.state.Stage.the-variants.{Running, SaveCtx, ProgramRegions, Resume}
-use Rattle.switch.specs.declared.state.Cause.{Cause}
-use Rattle.switch.specs.declared.state.Cause.the-variants.{WrongTick, TickInSwitch, BadStatus}
-use Rattle.switch.specs.declared.state.Phase.{Phase}
-use Rattle.switch.specs.declared.state.Phase.the-variants.{At, Stopped}
-use Rattle.switch.specs.declared.state.State.{State}
-use Rattle.switch.specs.declared.machine.Answer.{Answer}
+use Rattle.plan.specs.Plan.{Plan, frameLength, windowCount, windowOf, offsetOf, budgetOf}
+use Rattle.records.specs.Records.{endOf}
+use Rattle.accepted.specs.Accepted.{AcceptedIf}
+use Rattle.accepted.proofs.FollowLaws.{follow}
+use Rattle.protocol.specs.declared.Stage.{Stage}
+use Rattle.protocol.specs.declared.Stage.the-variants.{Running, SaveCtx, ProgramRegions, Resume}
+use Rattle.protocol.specs.declared.Cause.{Cause}
+use Rattle.protocol.specs.declared.Cause.the-variants.{WrongTick, TickInSwitch, BadStatus}
+use Rattle.protocol.specs.declared.Phase.{Phase}
+use Rattle.protocol.specs.declared.Phase.the-variants.{At, Stopped}
+use Rattle.protocol.specs.Phase.{callOpen, keptWord}
+use Rattle.switch.specs.declared.State.{State}
+use Rattle.switch.specs.declared.Answer.{Answer}
 use Rattle.switch.specs.State.{windowNo, cold, ticked, asked, resumed, stopped}
-use Rattle.switch.specs.Step.{timetableOf, coldMove, zeroMove}
-use Rattle.switch.specs.Reached.{Event, tick, status, moveOf, leads, word, Within, ReachedWithin, keptWord}
+use Rattle.switch.specs.Step.{timetableOf, coldMove, zeroAt}
+use Rattle.switch.specs.Reached.{Event, tick, status, moveOf, leads, wordOf, Within, ReachedWithin}
 use Rattle.switch.proofs.StateLaws.{is-asked, is-stopped}
 use Rattle.switch.proofs.StepLaws.{taken-last, taken-within, tick-in-switch, tick-wrong, tick-due, status-zero, status-bad}
 use Rattle.switch.proofs.Fits.{Between, AtStart, Place, Placed, markAt, StoppedFor, FitsPhase, Fits}
@@ -45,9 +47,9 @@ unfolding Within
 within-both bound [] more low also = also
 within-both bound (e ∷ events) more low also = (low .0, within-both bound events more (low .1) also)
 
-module _ (p : Plan) (a : Accepted p) (bound : ℕ) (long : frameLength p ≤ bound) where
+module _ (p : Plan) (a : AcceptedIf p) (bound : ℕ) (long : frameLength p ≤ bound) where
   -- one event more
-  and-then : {s : State} → ReachedWithin bound p s → (e : Event) → word e < bound → {to : Answer} → moveOf p s e ≡ to
+  and-then : {s : State} → ReachedWithin bound p s → (e : Event) → wordOf e < bound → {to : Answer} → moveOf p s e ≡ to
       → ReachedWithin bound p (to .state)
   unfolding leads Within
   and-then {s} (events, low, there) e small {to} leads-to = (
@@ -60,10 +62,10 @@ module _ (p : Plan) (a : Accepted p) (bound : ℕ) (long : frameLength p ≤ bou
   zero-small = omega (arith, some-ticks (follow p a))
 
   -- a zero in a switch
-  and-zero : {s : State} {stage : Stage} → ReachedWithin bound p s → s .phase ≡ At stage → {to : Answer} → zeroMove (p .windows) s stage ≡ to
+  and-zero : {s : State} {stage : Stage} → ReachedWithin bound p s → s .phase ≡ At stage → callOpen stage ≡ true → {to : Answer} → zeroAt (p .windows) s stage ≡ to
       → ReachedWithin bound p (to .state)
-  and-zero {s} {stage} there e leads-to =
-      and-then there (status 0) zero-small (status-zero (p .windows) s 0 stage e refl ∙ leads-to)
+  and-zero {s} {stage} there e waits leads-to =
+      and-then there (status 0) zero-small (status-zero (p .windows) s 0 stage e waits refl ∙ leads-to)
 
   -- the due tick, and if it is the window's last, three zeros
   module _ {window due : ℕ} (there : ReachedWithin bound p (running window due)) (small : due < bound) where
@@ -78,18 +80,18 @@ module _ (p : Plan) (a : Accepted p) (bound : ℕ) (long : frameLength p ≤ bou
 
   saved : {current target due : ℕ} → ReachedWithin bound p (live SaveCtx current target due false)
       → ReachedWithin bound p (live ProgramRegions current target due false)
-  unfolding zeroMove
-  saved there = and-zero there refl refl
+  unfolding zeroAt
+  saved there = and-zero there refl refl refl
 
   programmed : {current target due : ℕ} → ReachedWithin bound p (live ProgramRegions current target due false)
       → ReachedWithin bound p (live Resume current target due true)
-  unfolding zeroMove
-  programmed there = and-zero there refl refl
+  unfolding zeroAt
+  programmed there = and-zero there refl refl refl
 
   runs-again : {current target due : ℕ} → ReachedWithin bound p (live Resume current target due true)
       → ReachedWithin bound p (running target due)
-  unfolding zeroMove
-  runs-again there = and-zero there refl refl
+  unfolding zeroAt
+  runs-again there = and-zero there refl refl refl
 
   starts : ReachedWithin bound p (live ProgramRegions 0 0 0 false)
   unfolding coldMove leads Within

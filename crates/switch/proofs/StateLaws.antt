@@ -1,10 +1,10 @@
 -- A state is known by its phase and what else it holds.
 -- Assumes nothing.
 use mathlib.Core.Path.{_≡_, ap}
-use Rattle.switch.specs.declared.state.Stage.{Stage}
-use Rattle.switch.specs.declared.state.Cause.{Cause}
-use Rattle.switch.specs.declared.state.Phase.the-variants.{At, Stopped}
-use Rattle.switch.specs.declared.state.State.{State}
+use Rattle.protocol.specs.declared.Stage.{Stage}
+use Rattle.protocol.specs.declared.Cause.{Cause}
+use Rattle.protocol.specs.declared.Phase.the-variants.{At, Stopped}
+use Rattle.switch.specs.declared.State.{State}
 use Rattle.switch.specs.State.{asked, inPhase, stopped}
 
 pub is-asked : (s : State) {stage : Stage} → s .phase ≡ At stage → s ≡ asked s stage (s .target) (s .swapped)

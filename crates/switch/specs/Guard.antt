@@ -3,70 +3,68 @@
 use mathlib.Core.Bool.{Bool, not, _&&_, _||_}
 use mathlib.Core.List.{List}
 use Prim.Native.Nat.{ℕ}
-use lib.Dec.{eqb, ltb}
-use Rattle.refusal.specs.declared.Refusal.the-variants.{Stopped as MachineStopped, StrangeState}
+use lib.Dec.{eqb, leb, ltb}
+use Rattle.refusal.specs.declared.Refusal.the-variants.{MachineStopped, StrangeState}
 use Rattle.refusal.specs.declared.Verdict.{Verdict}
 use Rattle.refusal.specs.First.{refuseIf, orElse}
-use Rattle.timeline.specs.Windows.{nextWindow, holdsb}
-use Rattle.plan.specs.Plan.{Plan, windowCount, offsetIn, budgetIn}
+use Rattle.timeline.specs.Windows.{nextWindow}
+use Rattle.records.specs.declared.Window.{Window}
+use Rattle.plan.specs.Plan.{Plan, windowCount}
+use Rattle.records.specs.Records.{nthWindow, endOf}
 use Rattle.plan.specs.Faults.{verdictOf}
-use Rattle.switch.specs.declared.state.Stage.{Stage}
-use Rattle.switch.specs.declared.state.Stage.the-variants.{Running, SaveCtx, ProgramRegions, Resume}
-use Rattle.switch.specs.declared.state.Cause.{Cause}
-use Rattle.switch.specs.declared.state.Cause.the-variants.{WrongTick, TickInSwitch, BadStatus}
-use Rattle.switch.specs.declared.state.Phase.{Phase}
-use Rattle.switch.specs.declared.state.Phase.the-variants.{At, Stopped}
-use Rattle.switch.specs.declared.state.State.{State}
-use Rattle.switch.specs.State.{callOpen, isStopped}
+use Rattle.protocol.specs.declared.Stage.{Stage}
+use Rattle.protocol.specs.declared.Stage.the-variants.{Running, SaveCtx, ProgramRegions, Resume}
+use Rattle.protocol.specs.declared.Phase.{Phase}
+use Rattle.protocol.specs.Phase.{isStopped, stageOf, canBe}
+use Rattle.switch.specs.declared.State.{State}
+use Rattle.switch.specs.declared.guard.Guarded.{Guarded}
 
--- no switch is under way, and the due tick is in the current window
-unfoldable pub inWindow : ℕ → List ℕ → State → Bool
-inWindow count windows s =
-    ltb (s .current .0) count && eqb (s .target .0) (s .current .0) && holdsb (offsetIn windows) (budgetIn windows) (s .current .0) (s .due)
+-- the first two tests of the windows and the due tick get how many windows there are, and the target's window: no switch is under way, and the
+-- due tick is in the current window, which is the target
+abbrev pub inWindow : (count current target due : ℕ) → Window → Bool
+inWindow count current target due window =
+    ltb current count && eqb target current && leb (window .offset) due && ltb due (endOf window)
 
--- a switch from a window to the next, whose first tick is due
-unfoldable pub betweenWindows : ℕ → List ℕ → State → Bool
-betweenWindows count windows s =
-    ltb (s .current .0) count && eqb (s .target .0) (nextWindow count (s .current .0)) && eqb (s .due) (offsetIn windows (s .target .0))
+-- a switch from a window to the next, the target, whose first tick is due
+abbrev pub betweenWindows : (count current target due : ℕ) → Window → Bool
+betweenWindows count current target due window =
+    ltb current count && eqb target (nextWindow count current) && eqb due (window .offset)
 
 -- the switch that a cold start is
-unfoldable pub atStart : State → Bool
-atStart s = eqb (s .current .0) 0 && eqb (s .target .0) 0 && eqb (s .due) 0
+abbrev pub atStart : (current target due : ℕ) → Bool
+atStart current target due = eqb current 0 && eqb target 0 && eqb due 0
 
-unfoldable pub onTheWay : ℕ → List ℕ → State → Bool
-onTheWay count windows s = atStart s || betweenWindows count windows s
+-- which of them a stage passes, and how its mark stands: set when the regions are programmed, clear when they are about to be
+abbrev pub fitsStage : Stage → (mark inside between start : Bool) → Bool
+fitsStage Running mark inside between start = mark && inside
+fitsStage SaveCtx mark inside between start = not mark && between
+fitsStage ProgramRegions mark inside between start = not mark && (start || between)
+fitsStage Resume mark inside between start = mark && (start || between)
 
-unfoldable pub inPlace : ℕ → List ℕ → State → Stage → Bool
-inPlace count windows s Running = inWindow count windows s
-inPlace count windows s SaveCtx = betweenWindows count windows s
-inPlace count windows s ProgramRegions = onTheWay count windows s
-inPlace count windows s Resume = onTheWay count windows s
+unfoldable pub placedAt : (count : ℕ) → List ℕ → State → Stage → Bool
+placedAt count windows s stage =
+    let current = s .current .0 in
+    let target = s .target .0 in
+    let window = nthWindow windows target in
+    fitsStage stage (s .swapped) (inWindow count current target (s .due) window)
+    (betweenWindows count current target (s .due) window)
+    (atStart current target (s .due))
 
--- the mark is set when the regions are programmed, clear when they are about to be
-abbrev pub fitsMark : Stage → Bool → Bool
-fitsMark Running mark = mark
-fitsMark SaveCtx mark = not mark
-fitsMark ProgramRegions mark = not mark
-fitsMark Resume mark = mark
+-- a stop has a cause that can have stopped it there
+unfoldable pub fitsAt : (count : ℕ) → List ℕ → State → Stage → Bool
+fitsAt count windows s stage = canBe (s .due) (s .phase) && placedAt count windows s stage
 
-unfoldable pub fitsStage : ℕ → List ℕ → State → Stage → Bool
-fitsStage count windows s stage = fitsMark stage (s .swapped) && inPlace count windows s stage
+abbrev pub fits : (count : ℕ) → List ℕ → State → Bool
+fits count windows s = fitsAt count windows s (stageOf (s .phase))
 
--- what a machine can have stopped for
-abbrev pub fitsCause : Stage → ℕ → Cause → Bool
-fitsCause stage due (WrongTick t) = not (callOpen stage) && not (eqb t due)
-fitsCause stage due (TickInSwitch t) = callOpen stage
-fitsCause stage due (BadStatus word) = callOpen stage && not (eqb word 0)
+-- "then 17, then 14"
+unfoldable pub stateVerdict : (fits : Bool) → Phase → Verdict
+stateVerdict fits phase = orElse (refuseIf (not fits) StrangeState) (refuseIf (isStopped phase) MachineStopped)
 
-unfoldable pub fitsPhase : ℕ → List ℕ → State → Phase → Bool
-fitsPhase count windows s (At stage) = fitsStage count windows s stage
-fitsPhase count windows s (Stopped stage cause) = fitsCause stage (s .due) cause && fitsStage count windows s stage
-
-unfoldable pub fits : ℕ → List ℕ → State → Bool
-fits count windows s = fitsPhase count windows s (s .phase)
-
--- "these first, then 17, then 14"
+-- "these first"
 unfoldable pub guardOf : Plan → State → Verdict
-guardOf p s =
-    orElse (verdictOf p)
-    (orElse (refuseIf (not (fits (windowCount p) (p .windows) s)) StrangeState) (refuseIf (isStopped (s .phase)) MachineStopped))
+guardOf p s = orElse (verdictOf p) (stateVerdict (fits (windowCount p) (p .windows) s) (s .phase))
+
+-- with the stage that the step goes by
+abbrev pub guarded : Plan → State → Guarded
+guarded p s = record { stage = stageOf (s .phase); verdict = guardOf p s }

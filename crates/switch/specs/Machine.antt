@@ -7,29 +7,26 @@ use Rattle.refusal.specs.declared.Verdict.the-variants.{Accepted, Refused}
 use Rattle.refusal.specs.First.{refuseIf, orElse}
 use Rattle.plan.specs.Plan.{Plan}
 use Rattle.plan.specs.Faults.{verdictOf}
-use Rattle.switch.specs.declared.call.Call.the-variants.{None}
-use Rattle.switch.specs.declared.state.State.{State}
-use Rattle.switch.specs.declared.machine.Answer.{Answer}
-use Rattle.switch.specs.State.{zeros, runs}
-use Rattle.switch.specs.Step.{timetableOf, coldMove, tickMove, statusMove}
+use Rattle.protocol.specs.Phase.{runs}
+use Rattle.switch.specs.declared.State.{State}
+use Rattle.switch.specs.declared.Answer.{Answer}
+use Rattle.switch.specs.State.{zeros}
+use Rattle.switch.specs.Step.{timetableOf, refusedAnswer, coldMove, tickMove, statusMove}
 use Rattle.switch.specs.Guard.{guardOf}
 
-abbrev pub refusedAnswer : State → Verdict → Answer
-refusedAnswer s verdict = record { state = s; call = None; verdict = verdict }
-
 -- the step's answer, if nothing is wrong
-unfoldable pub answer : Verdict → State → Answer → Answer
-answer Accepted s to = to
-answer (Refused r) s to = refusedAnswer s (Refused r)
+unfoldable pub ifAccepted : Verdict → State → Answer → Answer
+ifAccepted Accepted s to = to
+ifAccepted (Refused r) s to = refusedAnswer s (Refused r)
 
 unfoldable pub coldOf : Plan → Answer
-coldOf p = answer (verdictOf p) zeros (coldMove (p .windows))
+coldOf p = ifAccepted (verdictOf p) zeros (coldMove (p .windows))
 
 unfoldable pub tickOf : Plan → State → ℕ → Answer
-tickOf p s t = answer (guardOf p s) s (tickMove (timetableOf p) s t)
+tickOf p s t = ifAccepted (guardOf p s) s (tickMove (timetableOf p) s t)
 
 unfoldable pub statusVerdict : Plan → State → Verdict
 statusVerdict p s = orElse (guardOf p s) (refuseIf (runs (s .phase)) NoCallOpen)
 
 unfoldable pub statusOf : Plan → State → ℕ → Answer
-statusOf p s word = answer (statusVerdict p s) s (statusMove (p .windows) s word)
+statusOf p s word = ifAccepted (statusVerdict p s) s (statusMove (p .windows) s word)

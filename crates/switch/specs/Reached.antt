@@ -4,11 +4,8 @@ use mathlib.Core.List.{List, [], _∷_}
 use mathlib.Core.Path.{_≡_}
 use Prim.Native.Nat.{ℕ, _<_}
 use Rattle.plan.specs.Plan.{Plan}
-use Rattle.switch.specs.declared.state.Cause.the-variants.{WrongTick, TickInSwitch, BadStatus}
-use Rattle.switch.specs.declared.state.Phase.{Phase}
-use Rattle.switch.specs.declared.state.Phase.the-variants.{At, Stopped}
-use Rattle.switch.specs.declared.state.State.{State}
-use Rattle.switch.specs.declared.machine.Answer.{Answer}
+use Rattle.switch.specs.declared.State.{State}
+use Rattle.switch.specs.declared.Answer.{Answer}
 use Rattle.switch.specs.Step.{timetableOf, coldMove, tickMove, statusMove}
 
 pub data Event : Type 0 where
@@ -26,22 +23,15 @@ leads p s (e ∷ events) = leads p (moveOf p s e .state) events
 abbrev pub Reached : Plan → State → Type 0
 Reached p s = (events : List Event) × (leads p (coldMove (p .windows) .state) events ≡ s)
 
-abbrev pub word : Event → ℕ
-word (tick t) = t
-word (status w) = w
+abbrev pub wordOf : Event → ℕ
+wordOf (tick t) = t
+wordOf (status word) = word
 
 -- every tick and every status word is below a bound: that of the words that can arrive is 2 ^ 32
 unfoldable pub Within : ℕ → List Event → Type 0
 Within bound [] = Unit {0}
-Within bound (e ∷ events) = (word e < bound) × Within bound events
+Within bound (e ∷ events) = (wordOf e < bound) × Within bound events
 
 abbrev pub ReachedWithin : ℕ → Plan → State → Type 0
 ReachedWithin bound p s =
     (events : List Event) × Within bound events × (leads p (coldMove (p .windows) .state) events ≡ s)
-
--- the word that a stop keeps
-abbrev pub keptWord : Phase → ℕ
-keptWord (At stage) = 0
-keptWord (Stopped stage (WrongTick t)) = t
-keptWord (Stopped stage (TickInSwitch t)) = t
-keptWord (Stopped stage (BadStatus w)) = w

@@ -1,13 +1,13 @@
 -- The states that the machine makes (document 01, "The machine"). No other file of specs/ or proofs/ writes a state out.
-use mathlib.Core.Bool.{Bool, true, false, not}
+use mathlib.Core.Bool.{Bool, false}
 use Prim.Native.Nat.{ℕ}
-use Rattle.plan.specs.declared.WindowNo.{WindowNo}
-use Rattle.switch.specs.declared.state.Stage.{Stage}
-use Rattle.switch.specs.declared.state.Stage.the-variants.{Running, SaveCtx, ProgramRegions, Resume}
-use Rattle.switch.specs.declared.state.Cause.{Cause}
-use Rattle.switch.specs.declared.state.Phase.{Phase}
-use Rattle.switch.specs.declared.state.Phase.the-variants.{At, Stopped}
-use Rattle.switch.specs.declared.state.State.{State}
+use Rattle.records.specs.declared.WindowNo.{WindowNo}
+use Rattle.protocol.specs.declared.Stage.{Stage}
+use Rattle.protocol.specs.declared.Stage.the-variants.{Running, ProgramRegions}
+use Rattle.protocol.specs.declared.Cause.{Cause}
+use Rattle.protocol.specs.declared.Phase.{Phase}
+use Rattle.protocol.specs.declared.Phase.the-variants.{At, Stopped}
+use Rattle.switch.specs.declared.State.{State}
 
 abbrev pub windowNo : ℕ → WindowNo
 windowNo i = record { 0 = i }
@@ -39,18 +39,3 @@ inPhase s phase = record { current = s .current; target = s .target; due = s .du
 
 abbrev pub stopped : State → Stage → Cause → State
 stopped s stage cause = inPhase s (Stopped stage cause)
-
--- the three phases in which a call waits for its status
-abbrev pub callOpen : Stage → Bool
-callOpen Running = false
-callOpen SaveCtx = true
-callOpen ProgramRegions = true
-callOpen Resume = true
-
-abbrev pub runs : Phase → Bool
-runs (At stage) = not (callOpen stage)
-runs (Stopped stage cause) = false
-
-abbrev pub isStopped : Phase → Bool
-isStopped (At stage) = false
-isStopped (Stopped stage cause) = true

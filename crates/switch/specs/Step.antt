@@ -4,22 +4,26 @@ use mathlib.Core.Bool.{Bool, true, false, cond}
 use mathlib.Core.List.{List}
 use Prim.Native.Nat.{ℕ, _+_}
 use lib.Dec.{eqb}
-use Rattle.refusal.specs.declared.Verdict.the-variants.{Accepted}
+use Rattle.refusal.specs.declared.Refusal.the-variants.{NoCallOpen}
+use Rattle.refusal.specs.declared.Verdict.{Verdict}
+use Rattle.refusal.specs.declared.Verdict.the-variants.{Accepted, Refused}
 use Rattle.timeline.specs.Windows.{nextWindow, nextTick}
-use Rattle.plan.specs.declared.PartitionNo.{PartitionNo}
-use Rattle.plan.specs.declared.WindowNo.{WindowNo}
-use Rattle.plan.specs.Plan.{Plan, frameLength, windowCount, nthWindow, endOf}
-use Rattle.switch.specs.declared.call.Call.{Call}
-use Rattle.switch.specs.declared.call.Call.the-variants.{None, Save, Swap, Resume as ResumeCall}
-use Rattle.switch.specs.declared.state.Stage.{Stage}
-use Rattle.switch.specs.declared.state.Stage.the-variants.{Running, SaveCtx, ProgramRegions, Resume}
-use Rattle.switch.specs.declared.state.Cause.{Cause}
-use Rattle.switch.specs.declared.state.Cause.the-variants.{WrongTick, TickInSwitch, BadStatus}
-use Rattle.switch.specs.declared.state.Phase.{Phase}
-use Rattle.switch.specs.declared.state.Phase.the-variants.{At, Stopped}
-use Rattle.switch.specs.declared.state.State.{State}
-use Rattle.switch.specs.declared.machine.Answer.{Answer}
-use Rattle.switch.specs.State.{windowNo, cold, ticked, asked, resumed, stopped, callOpen}
+use Rattle.records.specs.declared.PartitionNo.{PartitionNo}
+use Rattle.records.specs.declared.WindowNo.{WindowNo}
+use Rattle.plan.specs.Plan.{Plan, frameLength, windowCount}
+use Rattle.records.specs.Records.{nthWindow, endOf}
+use Rattle.protocol.specs.declared.Call.{Call}
+use Rattle.protocol.specs.declared.Call.the-variants.{None, SaveFor, SwapFor, ResumeFor}
+use Rattle.protocol.specs.declared.Stage.{Stage}
+use Rattle.protocol.specs.declared.Stage.the-variants.{Running, SaveCtx, ProgramRegions, Resume}
+use Rattle.protocol.specs.declared.Cause.{Cause}
+use Rattle.protocol.specs.declared.Cause.the-variants.{WrongTick, TickInSwitch, BadStatus}
+use Rattle.protocol.specs.declared.Phase.{Phase}
+use Rattle.protocol.specs.declared.Phase.the-variants.{At, Stopped}
+use Rattle.protocol.specs.Phase.{callOpen}
+use Rattle.switch.specs.declared.State.{State}
+use Rattle.switch.specs.declared.Answer.{Answer}
+use Rattle.switch.specs.State.{windowNo, cold, ticked, asked, resumed, stopped}
 
 -- what the machine knows of a plan: never the rows
 pub record Timetable : Type 0 where
@@ -33,14 +37,14 @@ timetable length count windows = record { length = length; count = count; window
 abbrev pub timetableOf : Plan → Timetable
 timetableOf p = timetable (frameLength p) (windowCount p) (p .windows)
 
-abbrev pub moved : State → Call → Answer
-moved s call = record { state = s; call = call; verdict = Accepted }
-
 abbrev pub owner : List ℕ → WindowNo → PartitionNo
 owner windows w = nthWindow windows (w .0) .owner
 
 abbrev pub lastTick : List ℕ → WindowNo → ℕ → Bool
 lastTick windows w t = eqb (t + 1) (endOf (nthWindow windows (w .0)))
+
+abbrev pub moved : State → Call → Answer
+moved s call = record { state = s; call = call; verdict = Accepted }
 
 -- nothing is asked
 abbrev pub quiet : State → Answer
@@ -49,22 +53,26 @@ quiet s = moved s None
 abbrev pub stop : State → Stage → Cause → Answer
 stop s stage cause = quiet (stopped s stage cause)
 
+-- "a refusal hands back the state it got; ... no call asked"
+abbrev pub refusedAnswer : State → Verdict → Answer
+refusedAnswer s verdict = record { state = s; call = None; verdict = verdict }
+
 -- "SaveCtx, target is the next window (0 after the last), mark false, asks save(owner of current)"
 abbrev pub save : ℕ → List ℕ → State → Answer
 save count windows s =
-    moved (asked s SaveCtx (windowNo (nextWindow count (s .current .0))) false) (Save (owner windows (s .current)))
+    moved (asked s SaveCtx (windowNo (nextWindow count (s .current .0))) false) (SaveFor (owner windows (s .current)))
 
 -- "to ProgramRegions, asks swap(owner of target)"
 abbrev pub swap : List ℕ → State → Answer
-swap windows s = moved (asked s ProgramRegions (s .target) (s .swapped)) (Swap (owner windows (s .target)))
+swap windows s = moved (asked s ProgramRegions (s .target) (s .swapped)) (SwapFor (owner windows (s .target)))
 
 -- "to Resume, mark true, asks resume(owner of target)"
 abbrev pub resume : List ℕ → State → Answer
-resume windows s = moved (asked s Resume (s .target) true) (ResumeCall (owner windows (s .target)))
+resume windows s = moved (asked s Resume (s .target) true) (ResumeFor (owner windows (s .target)))
 
 -- "Cold start: ... asks swap(owner of 0)"
 unfoldable pub coldMove : List ℕ → Answer
-coldMove windows = moved cold (Swap (owner windows (cold .target)))
+coldMove windows = moved cold (SwapFor (owner windows (cold .target)))
 
 -- "Tick, Running, t = due"
 unfoldable pub tickTaken : Timetable → State → ℕ → Answer
@@ -72,27 +80,38 @@ tickTaken tt s t =
     let next = ticked s (nextTick (tt .length) t) in
     cond (lastTick (tt .windows) (s .current) t) (save (tt .count) (tt .windows) next) (quiet next)
 
--- a tick in each phase
-unfoldable pub tickAt : Timetable → State → Phase → ℕ → Answer
-tickAt tt s (At stage) t =
+-- a tick at each stage
+unfoldable pub tickAt : Timetable → State → Stage → ℕ → Answer
+tickAt tt s stage t =
     cond (callOpen stage) (stop s stage (TickInSwitch t)) (cond (eqb t (s .due)) (tickTaken tt s t) (stop s stage (WrongTick t)))
-tickAt tt s (Stopped stage cause) t = quiet s
+
+-- and in each phase
+unfoldable pub tickIn : Timetable → State → Phase → ℕ → Answer
+tickIn tt s (At stage) t = tickAt tt s stage t
+tickIn tt s (Stopped stage cause) t = quiet s
 
 unfoldable pub tickMove : Timetable → State → ℕ → Answer
-tickMove tt s t = tickAt tt s (s .phase) t
+tickMove tt s t = tickIn tt s (s .phase) t
 
--- "Status 0"
-unfoldable pub zeroMove : List ℕ → State → Stage → Answer
-zeroMove windows s Running = quiet s
-zeroMove windows s SaveCtx = swap windows s
-zeroMove windows s ProgramRegions = resume windows s
-zeroMove windows s Resume = quiet (resumed s)
+-- "Status 0"; in Running none is let in
+unfoldable pub zeroAt : List ℕ → State → Stage → Answer
+zeroAt windows s SaveCtx = swap windows s
+zeroAt windows s ProgramRegions = resume windows s
+zeroAt windows s Resume = quiet (resumed s)
+zeroAt windows s Running = quiet (resumed s)
 
--- a status in each phase
-unfoldable pub statusAt : List ℕ → State → Phase → ℕ → Answer
-statusAt windows s (At stage) word =
-    cond (eqb word 0) (zeroMove windows s stage) (cond (callOpen stage) (stop s stage (BadStatus word)) (quiet s))
-statusAt windows s (Stopped stage cause) word = quiet s
+-- a status for the call that is open at a stage
+unfoldable pub replyAt : List ℕ → State → Stage → ℕ → Answer
+replyAt windows s stage word = cond (eqb word 0) (zeroAt windows s stage) (stop s stage (BadStatus word))
+
+-- "Status in Running: refusal 13"
+unfoldable pub statusAt : List ℕ → State → Stage → ℕ → Answer
+statusAt windows s stage word = cond (callOpen stage) (replyAt windows s stage word) (refusedAnswer s (Refused NoCallOpen))
+
+-- what a status does in each phase: "Refused events change nothing"
+unfoldable pub statusIn : List ℕ → State → Phase → ℕ → Answer
+statusIn windows s (At stage) word = cond (callOpen stage) (replyAt windows s stage word) (quiet s)
+statusIn windows s (Stopped stage cause) word = quiet s
 
 unfoldable pub statusMove : List ℕ → State → ℕ → Answer
-statusMove windows s word = statusAt windows s (s .phase) word
+statusMove windows s word = statusIn windows s (s .phase) word

@@ -1,152 +1,101 @@
-// Which states are let in: those that some ticks and statuses lead to from the plan's cold start. One window tells it, the current one in
-// Running and else the target, so that the test takes the same time for any plan.
+// Which states are let in: those that some ticks and statuses lead to from the plan's cold start. One window tells it, the target's, so
+// that the test takes the same time for any plan.
 ghost use mathlib.Core.Path.{_≡_};
 ghost use Rattle.plan.specs.Plan.{planOf};
-ghost use Rattle.switch.specs.Guard.{inWindow, betweenWindows, atStart, onTheWay, inPlace, fitsMark, fitsStage, fitsCause, fits, guardOf};
-use crate::state::Cause;
-use crate::state::Phase;
-use crate::state::Stage;
-use crate::state::State;
-use crate::step::next_window;
+ghost use Rattle.switch.specs.Guard.{inWindow, betweenWindows, atStart, fitsStage, fitsAt, stateVerdict, guarded};
+use crate::State;
+use crate::next::next_window;
+use crate::next::window_count;
 use plan::Frame;
-use plan::Window;
-use plan::windows::nth_window;
-use plan::windows::window_end;
+use protocol::Phase;
+use protocol::Stage;
+use records::Window;
+use records::nth_window;
+use records::window_end;
 use refusal::Refusal;
 use refusal::Verdict;
 
-// Set when the regions are programmed, clear when they are about to be.
-fn fits_mark(stage: Stage, swapped: bool) -> bool
-    ensures { λ r. ⌜ r ≡ fitsMark stage swapped ⌝ }
-{
-    match stage {
-        Stage::Running => swapped,
-        Stage::SaveCtx => !swapped,
-        Stage::ProgramRegions => !swapped,
-        Stage::Resume => swapped,
-    }
+// The verdict on a state, and the stage that its machine is at or was at when it stopped.
+pub(crate) struct Guarded {
+    pub(crate) stage: Stage,
+    pub(crate) verdict: Verdict,
 }
 
-// Whether a machine at this stage, with this tick due, can have stopped for the cause.
-fn fits_cause(stage: Stage, due: u32, cause: Cause) -> bool
-    ensures { λ r. ⌜ r ≡ fitsCause stage due cause ⌝ }
+// No switch is under way, and the due tick is in the current window, which is the target.
+fn in_window(count: u32, current: u32, target: u32, due: u32, window: Window) -> bool
+    ensures { λ r. ⌜ r ≡ inWindow count current target due window ⌝ }
 {
-    let waits = stage.call_open();
-    match cause {
-        Cause::WrongTick(t) => !waits && t != due,
-        Cause::TickInSwitch(_) => waits,
-        Cause::BadStatus(word) => waits && word != 0,
+    let end = window_end(window);
+    (current < count) & (target == current) & (window.offset <= due) & ((due as u64) < end)
+}
+
+// A switch from a window to the next, the target, whose first tick is due.
+fn between_windows(count: u32, current: u32, target: u32, due: u32, window: Window) -> bool
+    ensures { λ r. ⌜ r ≡ betweenWindows count current target due window ⌝ }
+{
+    let next = next_window(count, current);
+    (current < count) & (target == next) & (due == window.offset)
+}
+
+// The switch that a cold start is.
+fn at_start(current: u32, target: u32, due: u32) -> bool
+    ensures { λ r. ⌜ r ≡ atStart current target due ⌝ }
+{
+    (current == 0) & (target == 0) & (due == 0)
+}
+
+// The mark is set when the regions are programmed, clear when they are about to be.
+fn fits_stage(stage: Stage, swapped: bool, inside: bool, between: bool, start: bool) -> bool
+    ensures { λ r. ⌜ r ≡ fitsStage stage swapped inside between start ⌝ }
+{
+    match stage {
+        Stage::Running => swapped & inside,
+        Stage::SaveCtx => !swapped & between,
+        Stage::ProgramRegions => !swapped & (start | between),
+        Stage::Resume => swapped & (start | between),
     }
 }
 
 impl State {
-    // Running: no switch is under way, and the due tick is in the current window.
-    fn in_window(self, count: u32, windows: &[u32]) -> bool
-        ensures { λ r. ⌜ r ≡ inWindow count (now (windows .entry)) self ⌝ }
+    fn fits_at(self, stage: Stage, count: u32, windows: &[u32]) -> bool
+        ensures { λ r. ⌜ r ≡ fitsAt count (now (windows .entry)) self stage ⌝ }
     {
-        let current = self.current;
-        let due = self.due;
-        if count <= current.0 {
-            return false;
-        }
-        if self.target.0 != current.0 {
-            return false;
-        }
-        let window = nth_window(windows, current);
-        let end = window_end(window);
-        if due < window.offset {
-            return false;
-        }
-        (due as u64) < end
-    }
-
-    // In a switch from a window to the next, whose first tick is due.
-    fn between_windows(self, count: u32, windows: &[u32]) -> bool
-        ensures { λ r. ⌜ r ≡ betweenWindows count (now (windows .entry)) self ⌝ }
-    {
-        let current = self.current;
+        let current = self.current.0;
         let target = self.target;
-        if count <= current.0 {
-            return false;
-        }
-        if target.0 != next_window(count, current).0 {
-            return false;
-        }
-        let window = nth_window(windows, target);
-        self.due == window.offset
-    }
-
-    // In the switch that a cold start is.
-    fn at_start(self) -> bool
-        ensures { λ r. ⌜ r ≡ atStart self ⌝ }
-    {
-        if self.current.0 != 0 {
-            return false;
-        }
-        if self.target.0 != 0 {
-            return false;
-        }
-        self.due == 0
-    }
-
-    // In one switch or the other.
-    fn on_the_way(self, count: u32, windows: &[u32]) -> bool
-        ensures { λ r. ⌜ r ≡ onTheWay count (now (windows .entry)) self ⌝ }
-    {
-        if self.at_start() {
-            return true;
-        }
-        self.between_windows(count, windows)
-    }
-
-    fn in_place(self, stage: Stage, count: u32, windows: &[u32]) -> bool
-        ensures { λ r. ⌜ r ≡ inPlace count (now (windows .entry)) self stage ⌝ }
-    {
-        match stage {
-            Stage::Running => self.in_window(count, windows),
-            Stage::SaveCtx => self.between_windows(count, windows),
-            Stage::ProgramRegions => self.on_the_way(count, windows),
-            Stage::Resume => self.on_the_way(count, windows),
-        }
-    }
-
-    fn fits_stage(self, stage: Stage, count: u32, windows: &[u32]) -> bool
-        ensures { λ r. ⌜ r ≡ fitsStage count (now (windows .entry)) self stage ⌝ }
-    {
-        if !fits_mark(stage, self.swapped) {
-            return false;
-        }
-        self.in_place(stage, count, windows)
-    }
-
-    fn fits(self, count: u32, windows: &[u32]) -> bool
-        ensures { λ r. ⌜ r ≡ fits count (now (windows .entry)) self ⌝ }
-    {
+        let due = self.due;
         let phase = self.phase;
-        match phase {
-            Phase::At(stage) => self.fits_stage(stage, count, windows),
-            Phase::Stopped(stage, cause) => {
-                fits_cause(stage, self.due, cause) && self.fits_stage(stage, count, windows)
-            }
-        }
+        let window = nth_window(windows, target);
+        let inside = in_window(count, current, target.0, due, window);
+        let between = between_windows(count, current, target.0, due, window);
+        let start = at_start(current, target.0, due);
+        phase.can_be(due) & fits_stage(stage, self.swapped, inside, between, start)
     }
 
-    // The plan's numbers, then 17, then 14.
-    pub(crate) fn guard(self, frame: Frame, windows: &[u32], rows: &[u32]) -> Verdict
-        ensures { λ v. ⌜ v ≡ guardOf (planOf frame (now (windows .entry)) (now (rows .entry))) self ⌝ }
+    // 17, then 14.
+    fn let_in(self, stage: Stage, count: u32, windows: &[u32]) -> Verdict
+        ensures { λ v. ⌜ v ≡ stateVerdict (fitsAt count (now (windows .entry)) self stage) (self .phase) ⌝ }
     {
-        let verdict = frame.check(windows, rows);
-        let Verdict::Accepted = verdict else {
-            return verdict;
-        };
-        let count = (windows.len() / Window::NUMBERS) as u32;
-        if !self.fits(count, windows) {
+        if !self.fits_at(stage, count, windows) {
             return Verdict::Refused(Refusal::StrangeState);
         }
         let phase = self.phase;
-        let Phase::At(_) = phase else {
-            return Verdict::Refused(Refusal::Stopped);
+        match phase {
+            Phase::At(_) => Verdict::Accepted,
+            Phase::Stopped(_, _) => Verdict::Refused(Refusal::MachineStopped),
+        }
+    }
+
+    // The plan's numbers come first.
+    pub(crate) fn guard(self, frame: Frame, windows: &[u32], rows: &[u32]) -> Guarded
+        ensures { λ g. ⌜ g ≡ guarded (planOf frame (now (windows .entry)) (now (rows .entry))) self ⌝ }
+    {
+        let phase = self.phase;
+        let stage = phase.stage();
+        let verdict = frame.check(windows, rows);
+        let Verdict::Accepted = verdict else {
+            return Guarded { stage, verdict };
         };
-        Verdict::Accepted
+        let verdict = self.let_in(stage, window_count(windows), windows);
+        Guarded { stage, verdict }
     }
 }

@@ -1,30 +1,12 @@
 // The entry points: guard, then step.
 ghost use mathlib.Core.Path.{_≡_};
 ghost use Rattle.plan.specs.Plan.{planOf};
-ghost use Rattle.switch.specs.Machine.{refusedAnswer, coldOf, tickOf, statusOf};
-use crate::call::Call;
-use crate::state::State;
+ghost use Rattle.switch.specs.Machine.{coldOf, tickOf, statusOf};
+use crate::Answer;
+use crate::State;
+use crate::next::window_count;
 use plan::Frame;
-use plan::Window;
-use refusal::Refusal;
 use refusal::Verdict;
-
-// The state after the event, and the call to make; or why not, with the state as it came.
-pub struct Answer {
-    pub state: State,
-    pub call: Call,
-    pub verdict: Verdict,
-}
-
-fn refused(state: State, verdict: Verdict) -> Answer
-    ensures { λ a. ⌜ a ≡ refusedAnswer state verdict ⌝ }
-{
-    Answer {
-        state,
-        call: Call::None,
-        verdict,
-    }
-}
 
 impl State {
     // The first state, which asks for the regions of window 0's owner.
@@ -33,7 +15,7 @@ impl State {
     {
         let verdict = frame.check(windows, rows);
         let Verdict::Accepted = verdict else {
-            return refused(State::zeros(), verdict);
+            return State::zeros().refused(verdict);
         };
         State::cold_move(windows)
     }
@@ -41,24 +23,24 @@ impl State {
     pub fn tick(self, frame: Frame, windows: &[u32], rows: &[u32], t: u32) -> Answer
         ensures { λ a. ⌜ a ≡ tickOf (planOf frame (now (windows .entry)) (now (rows .entry))) self t ⌝ }
     {
-        let verdict = self.guard(frame, windows, rows);
+        let guarded = self.guard(frame, windows, rows);
+        let stage = guarded.stage;
+        let verdict = guarded.verdict;
         let Verdict::Accepted = verdict else {
-            return refused(self, verdict);
+            return self.refused(verdict);
         };
-        let count = (windows.len() / Window::NUMBERS) as u32;
-        self.tick_move(frame.length, count, windows, t)
+        self.tick_at(stage, frame.length, window_count(windows), windows, t)
     }
 
     pub fn status(self, frame: Frame, windows: &[u32], rows: &[u32], word: u32) -> Answer
         ensures { λ a. ⌜ a ≡ statusOf (planOf frame (now (windows .entry)) (now (rows .entry))) self word ⌝ }
     {
-        let verdict = self.guard(frame, windows, rows);
+        let guarded = self.guard(frame, windows, rows);
+        let stage = guarded.stage;
+        let verdict = guarded.verdict;
         let Verdict::Accepted = verdict else {
-            return refused(self, verdict);
+            return self.refused(verdict);
         };
-        if self.runs() {
-            return refused(self, Verdict::Refused(Refusal::NoCallOpen));
-        }
-        self.status_move(windows, word)
+        self.status_at(stage, windows, word)
     }
 }

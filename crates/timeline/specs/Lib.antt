@@ -1,1 +1,2 @@
+pub mod Lookup
 pub mod Windows

@@ -1,148 +1,57 @@
--- `host_code` meets its contract: at each `return` the case is known, and the table's row computes.
+-- `host_code` meets its contract: each arm names the numbers of one code, and what is left has EINVAL.
 -- Assumes nothing.
-use mathlib.Core.Path.{ap, sym}
 use borrow.Author.Needs.{needs}
-use Rattle.refusal.specs.Table.{hostCodeOf}
+use borrow.Author.Tests.{ne-eqb}
+use mathlib.Core.Logic.{inl, inr, ⊎-elim}
+use mathlib.Core.Path.{_≡_, sym, _∙_, ap}
+use Prim.Native.Nat.{ℕ}
+use Rattle.refusal.specs.Code.{EINVAL}
+use Rattle.refusal.specs.Table.{codeOf, hostCodeOf}
 use Rattle.refusal.proofs.host_code.Statement.{statement}
 use Rattle.refusal.proofs.host_code.Tie as tie
 
-enum-told : tie.Need-enum-told
-enum-told c = search needs
+number-requires : tie.Need-number-requires
+number-requires c κs = search needs
 
-enum-told-2 : tie.Need-enum-told-2
-enum-told-2 c = search needs
-
-enum-told-3 : tie.Need-enum-told-3
-enum-told-3 c = search needs
-
-enum-told-4 : tie.Need-enum-told-4
-enum-told-4 c = search needs
-
-enum-told-5 : tie.Need-enum-told-5
-enum-told-5 c = search needs
-
-enum-told-6 : tie.Need-enum-told-6
-enum-told-6 c = search needs
-
-enum-told-7 : tie.Need-enum-told-7
-enum-told-7 c = search needs
-
-enum-told-8 : tie.Need-enum-told-8
-enum-told-8 c = search needs
-
-enum-told-9 : tie.Need-enum-told-9
-enum-told-9 c = search needs
-
-enum-told-10 : tie.Need-enum-told-10
-enum-told-10 c = search needs
-
-enum-told-11 : tie.Need-enum-told-11
-enum-told-11 c = search needs
-
-enum-told-12 : tie.Need-enum-told-12
-enum-told-12 c = search needs
-
-enum-told-13 : tie.Need-enum-told-13
-enum-told-13 c = search needs
-
-enum-told-14 : tie.Need-enum-told-14
-enum-told-14 c = search needs
-
-enum-told-15 : tie.Need-enum-told-15
-enum-told-15 c = search needs
-
-enum-told-16 : tie.Need-enum-told-16
-enum-told-16 c = search needs
-
-enum-told-17 : tie.Need-enum-told-17
-enum-told-17 c = search needs
+-- where the number is n the code is n's
+numbered : (c : tie.After-number) (n : ℕ) → c .number .result ≡ n → codeOf n ≡ hostCodeOf (c .before .args .r)
+numbered c n e = ap codeOf (sym e ∙ c .number .ensures)
 
 returns : tie.Need-returns
-returns c = ap hostCodeOf (sym (c .enum-told .given .1))
+unfolding codeOf
+returns c =
+    let at = numbered (c .before) in
+    ⊎-elim (at 4) (⊎-elim (at 6) (at 15)) (c .match .keys1)
 
 returns-2 : tie.Need-returns-2
-returns-2 c = ap hostCodeOf (sym (c .enum-told2 .given .1))
+unfolding codeOf
+returns-2 c = let at = numbered (c .before) in ⊎-elim (at 10) (at 16) (c .match .keys2)
 
 returns-3 : tie.Need-returns-3
-returns-3 c = ap hostCodeOf (sym (c .enum-told3 .given .1))
+unfolding codeOf
+returns-3 c = numbered (c .before) 11 (c .match .keys3)
 
 returns-4 : tie.Need-returns-4
-returns-4 c = ap hostCodeOf (sym (c .enum-told4 .given .1))
+unfolding codeOf
+returns-4 c = numbered (c .before) 13 (c .match .keys4)
 
 returns-5 : tie.Need-returns-5
-returns-5 c = ap hostCodeOf (sym (c .enum-told5 .given .1))
+unfolding codeOf
+returns-5 c = numbered (c .before) 14 (c .match .keys5)
 
 returns-6 : tie.Need-returns-6
-returns-6 c = ap hostCodeOf (sym (c .enum-told6 .given .1))
+unfolding codeOf
+returns-6 c = numbered (c .before) 17 (c .match .keys6)
 
 returns-7 : tie.Need-returns-7
-returns-7 c = ap hostCodeOf (sym (c .enum-told7 .given .1))
-
-returns-8 : tie.Need-returns-8
-returns-8 c = ap hostCodeOf (sym (c .enum-told8 .given .1))
-
-returns-9 : tie.Need-returns-9
-returns-9 c = ap hostCodeOf (sym (c .enum-told9 .given .1))
-
-returns-10 : tie.Need-returns-10
-returns-10 c = ap hostCodeOf (sym (c .enum-told10 .given .1))
-
-returns-11 : tie.Need-returns-11
-returns-11 c = ap hostCodeOf (sym (c .enum-told11 .given .1))
-
-returns-12 : tie.Need-returns-12
-returns-12 c = ap hostCodeOf (sym (c .enum-told12 .given .1))
-
-returns-13 : tie.Need-returns-13
-returns-13 c = ap hostCodeOf (sym (c .enum-told13 .given .1))
-
-returns-14 : tie.Need-returns-14
-returns-14 c = ap hostCodeOf (sym (c .enum-told14 .given .1))
-
-returns-15 : tie.Need-returns-15
-returns-15 c = ap hostCodeOf (sym (c .enum-told15 .given .1))
-
-returns-16 : tie.Need-returns-16
-returns-16 c = ap hostCodeOf (sym (c .enum-told16 .given .1))
-
-returns-17 : tie.Need-returns-17
-returns-17 c = ap hostCodeOf (sym (c .enum-told17 .given .1))
+unfolding codeOf
+returns-7 c =
+    let n = c .before .number .result in
+    let ((((((start, enoent), enospc), eaddrinuse), eagain), ecanceled), ebadf) = c .match .rest in
+    let others : codeOf n ≡ EINVAL = simp (ne-eqb n 4 (λ e. enoent (inl e)), ne-eqb n 6 (λ e. enoent (inr (inl e))), ne-eqb n 15 (λ e. enoent (inr (inr e))), ne-eqb n 10 (λ e. enospc (inl e)), ne-eqb n 16 (λ e. enospc (inr e)), ne-eqb n 11 eaddrinuse, ne-eqb n 13 eagain, ne-eqb n 14 ecanceled, ne-eqb n 17 ebadf) in
+    sym others ∙ ap codeOf (c .before .number .ensures)
 
 pub host-code-spec : {M : Type 1} → statement M
 host-code-spec =
     tie.close
-    (tie.spec
-    enum-told
-    enum-told-2
-    enum-told-3
-    enum-told-4
-    enum-told-5
-    enum-told-6
-    enum-told-7
-    enum-told-8
-    enum-told-9
-    enum-told-10
-    enum-told-11
-    enum-told-12
-    enum-told-13
-    enum-told-14
-    enum-told-15
-    enum-told-16
-    enum-told-17
-    returns
-    returns-2
-    returns-3
-    returns-4
-    returns-5
-    returns-6
-    returns-7
-    returns-8
-    returns-9
-    returns-10
-    returns-11
-    returns-12
-    returns-13
-    returns-14
-    returns-15
-    returns-16
-    returns-17)
+    (tie.spec number-requires returns returns-2 returns-3 returns-4 returns-5 returns-6 returns-7)

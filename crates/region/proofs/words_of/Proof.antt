@@ -4,13 +4,13 @@ use mathlib.Core.List.{List}
 use mathlib.Core.Path.{_≡_, sym, ap, _∙_}
 use borrow.Author.Needs.{needs}
 use Rattle.refusal.specs.declared.Verdict.the-variants.{Accepted}
-use Rattle.plan.specs.declared.own.OwnRows.{OwnRows}
-use Rattle.plan.specs.declared.own.Owned.{Owned}
-use Rattle.plan.specs.Plan.{Plan, planOf}
+use Rattle.own.specs.declared.OwnRows.{OwnRows}
+use Rattle.own.specs.declared.Owned.{Owned}
+use Rattle.plan.specs.Plan.{Plan, planOf, ownRows}
 use Rattle.plan.specs.Faults.{verdictOf}
-use Rattle.plan.specs.Own.{packed, ownRows}
-use Rattle.plan.proofs.AcceptedLaws.{accepted-all}
-use Rattle.plan.proofs.OwnLaws.{owned-accepted, owned-verdict}
+use Rattle.own.specs.Own.{packed}
+use Rattle.accepted.proofs.AcceptedLaws.{accepted-all}
+use Rattle.own.proofs.OwnLaws.{owned-accepted, owned-verdict}
 use Rattle.region.specs.declared.Pair.{Pair}
 use Rattle.region.specs.Slots.{slotCount}
 use Rattle.region.specs.Words.{upTo, noWords}
@@ -41,15 +41,18 @@ told c =
     let start = c .before .before .before in
     ap (λ (o : Owned). o .verdict) (c .own-rows .ensures) ∙ owned-verdict (plan start) (start .args .partition .0)
 
-accepted : (c : tie.After-enum-told) → verdictOf (plan (c .before .before .before .before .before)) ≡ Accepted
+-- once it is accepted
+abbrev asked : tie.After-enum-told → tie.Start
+asked c = c .before .before .before .before .before
+
+accepted : (c : tie.After-enum-told) → verdictOf (plan (asked c)) ≡ Accepted
 accepted c = sym (told (c .before .before)) ∙ c .enum-told .given .1
 
--- and the rows are the partition's
-rows : (c : tie.After-enum-told)
-    → c .before .before .own-rows .result .own ≡ packed (ownRows (plan (c .before .before .before .before .before)) (c .before .before .before .before .before .args .partition .0))
+-- the rows are the partition's
+rows : (c : tie.After-enum-told) → c .before .before .own-rows .result .own ≡ packed (ownRows (plan (asked c)) (asked c .args .partition .0))
 rows c =
-    let start = c .before .before .before .before .before in
-    ap (λ (o : Owned). o .own) (c .before .before .own-rows .ensures ∙ owned-accepted (plan start) (start .args .partition .0) (accepted c))
+    ap (λ (o : Owned). o .own)
+    (c .before .before .own-rows .ensures ∙ owned-accepted (plan (asked c)) (asked c .args .partition .0) (accepted c))
 
 returns : tie.Need-returns
 returns c =
@@ -64,19 +67,19 @@ no-words-requires-2 c κs = search needs
 returns-2 : tie.Need-returns-2
 returns-2 c =
     let at = c .before .before .before in
-    let start = at .before .before .before .before .before in
+    let start = asked at in
     c .no-words2 .ensures ∙ sym (words-unknown (plan start) (start .args .partition .0) (accepted at) (c .before .if1 .taken))
 
 slots-of-requires : tie.Need-slots-of-requires
 slots-of-requires c κs =
     let at = c .before .before .before in
-    let start = at .before .before .before .before .before in
+    let start = asked at in
     rw (rows at) (even-sizes (plan start) (accepted-all (plan start) (accepted at)) (start .args .partition .0))
 
 returns-3 : tie.Need-returns-3
 returns-3 c =
     let at = c .before .before .before .before in
-    let start = at .before .before .before .before .before in
+    let start = asked at in
     let q = start .args .partition .0 in
     ap (λ (slots : List Pair). record { slots = slots; verdict = Accepted })
     (c .slots-of .ensures ∙ ap (λ (own : OwnRows). upTo (slotAt own) slotCount) (rows at) ∙ slots-of-packed (ownRows (plan start) q) slotCount)

@@ -8,7 +8,7 @@ use native.Mathlib.Omega.{arith}
 use borrow.Author.Needs.{needs}
 use Rattle.refusal.specs.First.{firstFault}
 use Rattle.refusal.proofs.First.{starts, goes-on, stops, ends}
-use Rattle.plan.specs.Plan.{startOf, endOf}
+use Rattle.records.specs.Records.{startOf, endOf}
 use Rattle.plan.specs.Parts.{windowFault, windowTest}
 use Rattle.plan.proofs.check.windows_fault.Statement.{statement}
 use Rattle.plan.proofs.check.windows_fault.Tie as tie
@@ -24,8 +24,8 @@ abbrev μ-loop : tie.MeasureT-loop
 loop-holds : tie.Need-loop-holds Inv-loop μ-loop
 loop-holds c = (omega arith, refl, starts _ _)
 
-nth-window-requires : tie.Need-nth-window-requires Inv-loop μ-loop
-nth-window-requires c κs = search needs
+window-in-requires : tie.Need-window-in-requires Inv-loop μ-loop
+window-in-requires c κs = search needs
 
 window-fault-requires : tie.Need-window-fault-requires Inv-loop μ-loop
 window-fault-requires c κs = search needs
@@ -41,7 +41,7 @@ tested : (c : tie.After-window-fault Inv-loop μ-loop)
 unfolding windowTest
 tested c =
     let at = c .before .before .before in
-    sym (c .window-fault .ensures ∙ (λ k. windowFault (at .loop .i) (at .loop .inv .1 k) (c .before .nth-window .ensures k)))
+    sym (c .window-fault .ensures ∙ (λ k. windowFault (at .loop .i) (at .loop .inv .1 k) (c .before .window-in .ensures k)))
 
 returns : tie.Need-returns Inv-loop μ-loop
 returns c =
@@ -62,7 +62,7 @@ loop-again : tie.Need-loop-again Inv-loop μ-loop
 loop-again c =
     let at = c .before .before .before .before .before .before in (
       omega arith,
-      rw add-one (c .window-end .ensures ∙ ap endOf (c .before .before .before .before .nth-window .ensures)),
+      rw add-one (c .window-end .ensures ∙ ap endOf (c .before .before .before .before .window-in .ensures)),
       at .loop .inv .2 ∙ goes-on _ _ _ (search needs) (tested (c .before .before .before) ∙ c .before .enum-told .given .1),
     )
 
@@ -76,7 +76,7 @@ windows-fault-spec =
     Inv-loop
     μ-loop
     loop-holds
-    nth-window-requires
+    window-in-requires
     window-fault-requires
     enum-told
     enum-told-2

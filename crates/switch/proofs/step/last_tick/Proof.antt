@@ -1,9 +1,9 @@
 -- `last_tick` meets its contract: the end is the window's.
 -- Assumes nothing.
 use borrow.Author.Needs.{needs}
-use Rattle.plan.specs.Plan.{endOf}
-use lib.Dec.{eqb}
 use mathlib.Core.Path.{ap, _∙_}
+use lib.Dec.{eqb}
+use Rattle.records.specs.Records.{endOf}
 use Rattle.switch.proofs.step.last_tick.Statement.{statement}
 use Rattle.switch.proofs.step.last_tick.Tie as tie
 

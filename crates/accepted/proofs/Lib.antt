@@ -1,0 +1,4 @@
+pub mod AcceptedLaws
+pub mod EqualLaws
+pub mod FollowLaws
+pub mod WrongLaws

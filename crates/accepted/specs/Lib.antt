@@ -1,0 +1,3 @@
+pub mod Accepted
+pub mod Equal
+pub mod Wrong

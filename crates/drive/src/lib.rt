@@ -1,0 +1,40 @@
+// A machine that is driven on: each open call is answered with zero, each tick is the due one. bench/events.rs times it.
+ghost use mathlib.Core.Path.{_≡_};
+ghost use Rattle.plan.specs.Plan.{planOf};
+ghost use Rattle.drive.specs.Drive.{onward, driven};
+use plan::Frame;
+use protocol::Call;
+use switch::Answer;
+use switch::State;
+
+fn go_on(answer: Answer, frame: Frame, windows: &[u32], rows: &[u32]) -> Answer
+    ensures { λ a. ⌜ a ≡ onward (planOf frame (now (windows .entry)) (now (rows .entry))) answer ⌝ }
+{
+    let state = answer.state;
+    let call = answer.call;
+    match call {
+        Call::None => state.tick(frame, windows, rows, state.due),
+        Call::SaveFor(_) => state.status(frame, windows, rows, 0),
+        Call::SwapFor(_) => state.status(frame, windows, rows, 0),
+        Call::ResumeFor(_) => state.status(frame, windows, rows, 0),
+    }
+}
+
+// The due tick after a cold start and so many events.
+#[no_mangle]
+pub extern "C" fn shillingnook_driven(
+    frame: Frame,
+    windows: &[u32],
+    rows: &[u32],
+    events: u32,
+) -> u32
+    ensures { λ due. ⌜ due ≡ driven (planOf frame (now (windows .entry)) (now (rows .entry))) events .state .due ⌝ }
+{
+    let mut answer = State::cold_start(frame, windows, rows);
+    let mut i: u32 = 0;
+    while i < events {
+        answer = go_on(answer, frame, windows, rows);
+        i += 1;
+    }
+    answer.state.due
+}

@@ -1,0 +1,149 @@
+// The machine over frame A of document 01: the cold start, the ticks of window 0, the switch to window 1, a tick that is not due, and one
+// more. A line says what was sent, then where the machine is, the window and the due tick, and what it asks of the host.
+use plan::Frame;
+use protocol::Call;
+use protocol::Cause;
+use protocol::Phase;
+use protocol::Stage;
+use refusal::Verdict;
+use switch::Answer;
+use switch::State;
+
+const OUT: i32 = 1;
+
+const FRAME: Frame = Frame { length: 50 };
+
+// Owner, offset and budget of each window.
+const FRAME_A: [u32; 12] = [0, 0, 10, 1, 10, 20, 0, 30, 5, 2, 35, 15];
+
+fn say(words: &[u8]) {
+    io::write_all(OUT, words);
+}
+
+fn say_with(words: &[u8], n: u32) {
+    say(words);
+    io::print_decimal(OUT, n as u64);
+}
+
+fn say_stage(stage: Stage) {
+    match stage {
+        Stage::Running => {
+            say(b"running");
+        }
+        Stage::SaveCtx => {
+            say(b"saving the context");
+        }
+        Stage::ProgramRegions => {
+            say(b"programming the regions");
+        }
+        Stage::Resume => {
+            say(b"resuming");
+        }
+    }
+}
+
+fn say_cause(cause: Cause) {
+    match cause {
+        Cause::WrongTick(t) => {
+            say_with(b": wrong tick ", t);
+        }
+        Cause::TickInSwitch(t) => {
+            say_with(b": tick in a switch, ", t);
+        }
+        Cause::BadStatus(word) => {
+            say_with(b": bad status ", word);
+        }
+    }
+}
+
+fn say_phase(phase: Phase) {
+    match phase {
+        Phase::At(stage) => {
+            say_stage(stage);
+        }
+        Phase::Stopped(stage, cause) => {
+            say(b"stopped while ");
+            say_stage(stage);
+            say_cause(cause);
+        }
+    }
+}
+
+fn say_call(call: Call) {
+    match call {
+        Call::None => {}
+        Call::SaveFor(q) => {
+            say_with(b"\tasks to save partition ", q.0);
+        }
+        Call::SwapFor(q) => {
+            say_with(b"\tasks to swap in partition ", q.0);
+        }
+        Call::ResumeFor(q) => {
+            say_with(b"\tasks to resume partition ", q.0);
+        }
+    }
+}
+
+fn say_refused(verdict: Verdict) {
+    if let Verdict::Refused(r) = verdict {
+        say_with(b"refused with ", refusal::number(r));
+        say_with(b" at place ", refusal::place(r));
+        say(b": ");
+    }
+}
+
+fn say_answer(answer: Answer) {
+    let verdict = answer.verdict;
+    let state = answer.state;
+    let phase = state.phase;
+    let call = answer.call;
+    say(b"\t");
+    say_refused(verdict);
+    say_phase(phase);
+    say_with(b"\twindow ", state.current.0);
+    say_with(b"\tdue ", state.due);
+    say_call(call);
+    say(b"\n");
+}
+
+fn sent_tick(state: State, t: u32) -> State {
+    let answer = state.tick(FRAME, &FRAME_A, &[], t);
+    say_with(b"tick ", t);
+    say_answer(answer);
+    answer.state
+}
+
+fn sent_status(state: State, word: u32) -> State {
+    let answer = state.status(FRAME, &FRAME_A, &[], word);
+    say_with(b"status ", word);
+    say_answer(answer);
+    answer.state
+}
+
+fn sent_window_0(state: State) -> State {
+    let mut now = state;
+    let mut t: u32 = 0;
+    while t < 10 {
+        now = sent_tick(now, t);
+        t += 1;
+    }
+    now
+}
+
+fn started() -> State {
+    let cold = State::cold_start(FRAME, &FRAME_A, &[]);
+    say(b"cold start");
+    say_answer(cold);
+    cold.state
+}
+
+fn main() {
+    let swapped = sent_status(started(), 0);
+    let at_window_0 = sent_status(swapped, 0);
+    let at_end = sent_window_0(at_window_0);
+    let saved = sent_status(at_end, 0);
+    let swapped_again = sent_status(saved, 0);
+    let at_window_1 = sent_status(swapped_again, 0);
+    let stopped = sent_tick(at_window_1, 12);
+    sent_tick(stopped, 13);
+}

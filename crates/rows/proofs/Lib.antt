@@ -1,0 +1,4 @@
+pub mod ClashLaws
+pub mod Powers
+pub mod RowLaws
+pub mod TestLaws
