@@ -1,5 +1,5 @@
 -- Each event either is refused, or stops the machine, or leaves it going: `what-it-does`, by the cases of a step and what holds of any history
--- (`Inv`, crate `switch`). The sentences on stops follow by induction on the events, the others from `Inv` alone.
+-- (`Inv`, crate `history`). The sentences on stops follow by induction on the events, the others from `Inv` alone.
 -- Assumes nothing.
 use mathlib.Core.Bool.{cond, not, Bool, true, false, true≢false, false≢true}
 use mathlib.Core.List.{List, [], _∷_, _++_, cons-ne-nil, head-eq-of-cons-eq, tail-eq-of-cons-eq}
@@ -18,7 +18,7 @@ use Rattle.plan.specs.Faults.{verdictOf}
 use Rattle.accepted.specs.Accepted as plan
 use Rattle.accepted.proofs.AcceptedLaws.{accepted-all, all-accepted}
 use Rattle.accepted.proofs.FollowLaws.{follow}
-use Rattle.region.proofs.Reach.{separation}
+use Rattle.words.proofs.Reach.{separation}
 use Rattle.protocol.specs.declared.CallWords.{CallWords}
 use Rattle.protocol.specs.declared.Stage.{Stage}
 use Rattle.protocol.specs.declared.Stage.the-variants.{Running, SaveCtx, ProgramRegions, Resume}
@@ -28,20 +28,21 @@ use Rattle.protocol.specs.declared.Phase.{Phase}
 use Rattle.protocol.specs.declared.Phase.the-variants.{At, Stopped}
 use Rattle.protocol.specs.Phase.{callOpen, runs, isStopped}
 use Rattle.protocol.specs.Numbers.{noCall, saveFor, swapFor, resumeFor, callWords, stageNumber, phaseOf, phaseWords}
-use Rattle.switch.specs.declared.State.{State}
-use Rattle.switch.specs.declared.Answer.{Answer}
-use Rattle.switch.specs.State.{inPhase, stopped}
-use Rattle.switch.specs.Step.{timetableOf, owner, coldMove}
-use Rattle.switch.specs.Cases.{TickCase, window-goes-on, window-ends, wrong-tick, tick-in-a-switch, tick-too-late, StatusCase, saved, programmed, runs-again, bad-status, status-unasked-for, status-too-late}
-use Rattle.switch.specs.Machine.{coldOf}
-use Rattle.switch.specs.Reached.{Event, tick, status, wordOf}
-use Rattle.switch.specs.History.{machineOf, called, answered, History, answerOf, begin, goOn, next, since, history, openCall}
-use Rattle.switch.proofs.Cases.{tick-case, status-case}
-use Rattle.switch.proofs.Fits.{FitsPhase, Fits}
-use Rattle.switch.proofs.Answers.{too-late, on-tick, on-status, unasked, refused-not-counted, zero-swaps, zero-resumes, zero-runs}
-use Rattle.switch.proofs.EqualLaws.{same-history}
-use Rattle.switch.proofs.MachineLaws.{cold-accepted}
-use Rattle.switch.proofs.HistoryLaws.{TalkOf, Inv, since-on, start-phase, start-is, start-inv, next-inv, history-inv}
+use Rattle.state.specs.declared.State.{State}
+use Rattle.state.specs.declared.Answer.{Answer}
+use Rattle.state.specs.State.{inPhase, stopped}
+use Rattle.state.specs.Answer.{owner}
+use Rattle.state.specs.Start.{coldMove, coldOf}
+use Rattle.switch.specs.Step.{timetableOf}
+use Rattle.history.specs.Cases.{TickCase, window-goes-on, window-ends, wrong-tick, tick-in-a-switch, tick-too-late, StatusCase, saved, programmed, runs-again, bad-status, status-unasked-for, status-too-late}
+use Rattle.history.specs.Reached.{Event, tick, status, wordOf}
+use Rattle.history.specs.History.{machineOf, called, answered, History, answerOf, begin, goOn, next, since, history, openCall}
+use Rattle.history.proofs.Cases.{tick-case, status-case}
+use Rattle.guard.proofs.FitsLaws.{FitsPhase, Fits}
+use Rattle.history.proofs.Answers.{too-late, on-tick, on-status, unasked, refused-not-counted, zero-swaps, zero-resumes, zero-runs}
+use Rattle.history.proofs.EqualLaws.{same-history}
+use Rattle.state.proofs.StartLaws.{cold-accepted}
+use Rattle.history.proofs.HistoryLaws.{TalkOf, Inv, since-on, start-phase, start-is, start-inv, next-inv, history-inv}
 use Rattle.demands.specs.Machine.{CheckAccepts, phaseNumber, Runs, HasStopped, Open, right, Fault, FirstFault, causeNumber, entered, Kept, StopsExactly, RefusedWith, StaysStopped, Begins, RunsOrWaits, RightTick, ZeroGoesOn, TwoZeros, ThreeZeros, WhileRunning, Demand3, RowsDoNotMatter}
 
 -- the phases by their numbers

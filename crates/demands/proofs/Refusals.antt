@@ -1,4 +1,4 @@
--- The tests of the guard, of the lookup and of the words in document 01's numbers: the test of a state is `Reached` (crate `switch`,
+-- The tests of the guard, of the lookup and of the words in document 01's numbers: the test of a state is `Reached` (crate `history`,
 -- proofs/Exact.antt), and an outcome tells its verdict (crate `refusal`, proofs/Table.antt).
 -- Assumes nothing.
 use mathlib.Core.Bool.{Bool, true, false, false≢true}
@@ -20,21 +20,22 @@ use Rattle.accepted.proofs.WrongLaws.{refused-for}
 use Rattle.lookup.specs.declared.Located.{Located}
 use Rattle.lookup.specs.Lookup.{lookupOf}
 use Rattle.lookup.proofs.LookupLaws.{lookup-refused, lookup-past, lookup-answers}
-use Rattle.region.specs.declared.Words.{Words}
-use Rattle.region.proofs.WordsLaws.{words-refused, words-unknown, words-found}
+use Rattle.words.specs.declared.Words.{Words}
+use Rattle.words.proofs.WordsLaws.{words-refused, words-unknown, words-found}
 use Rattle.protocol.specs.Phase.{isStopped, runs}
 use Rattle.protocol.specs.Numbers.{callWords}
-use Rattle.switch.specs.declared.State.{State}
-use Rattle.switch.specs.declared.Answer.{Answer}
-use Rattle.switch.specs.Step.{coldMove}
-use Rattle.switch.specs.Guard.{fits, guardOf}
-use Rattle.switch.specs.Reached.{Event, tick, status, Reached}
-use Rattle.switch.specs.History.{answerOf}
-use Rattle.switch.proofs.Answers.{step-accepts, refused-changes-nothing, refused-not-counted}
-use Rattle.switch.proofs.Exact.{let-in-exactly, let-in-by-words}
-use Rattle.switch.proofs.GuardLaws.{guard-plan, guard-strange, guard-stopped, guard-accepted}
-use Rattle.switch.proofs.HistoryLaws.{history-leads}
-use Rattle.switch.proofs.MachineLaws.{cold-refused, tick-refused, tick-accepted, status-refused, status-unasked, status-accepted}
+use Rattle.state.specs.declared.State.{State}
+use Rattle.state.specs.declared.Answer.{Answer}
+use Rattle.state.specs.Start.{coldMove}
+use Rattle.guard.specs.Guard.{fits, guardOf}
+use Rattle.history.specs.Reached.{Event, tick, status, Reached}
+use Rattle.history.specs.History.{answerOf}
+use Rattle.history.proofs.Answers.{step-accepts, refused-changes-nothing, refused-not-counted}
+use Rattle.history.proofs.Exact.{let-in-exactly, let-in-by-words}
+use Rattle.guard.proofs.GuardLaws.{guard-plan, guard-strange, guard-stopped, guard-accepted}
+use Rattle.history.proofs.HistoryLaws.{history-leads}
+use Rattle.state.proofs.StartLaws.{cold-refused}
+use Rattle.switch.proofs.MachineLaws.{tick-refused, tick-accepted, status-refused, status-unasked, status-accepted}
 use Rattle.demands.specs.Machine.{CheckAccepts}
 use Rattle.demands.specs.Refusals.{RightVerdict, RightWindow, WordsRefusals, isStatus, outcomeOf, EventRefusals, StrangeExactly, SameStates, ChangesNothing, Demand1}
 use Rattle.demands.proofs.Machine.{accepts, stopped-number, running-number}

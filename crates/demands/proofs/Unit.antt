@@ -9,12 +9,12 @@ use lib.Dec.{eqb}
 use Rattle.plan.specs.Plan.{Plan, ownerOf}
 use Rattle.records.specs.Records.{AllU32}
 use Rattle.accepted.specs.Accepted.{AcceptedIf}
-use Rattle.region.specs.Manual.{Mpu, programmed}
-use Rattle.region.specs.Words.{wordsOf}
-use Rattle.region.specs.Unit.{OthersOff, ExactlyTheRows}
-use Rattle.region.proofs.Programmed.{stay-off}
-use Rattle.region.proofs.Unit.{words-give-the-rows, nothing-of-another}
-use Rattle.switch.specs.History.{machineOf, Entry, called, answered, history}
+use Rattle.words.specs.Manual.{Mpu, programmed}
+use Rattle.words.specs.Words.{wordsOf}
+use Rattle.words.specs.Unit.{OthersOff, ExactlyTheRows}
+use Rattle.words.proofs.Programmed.{stay-off}
+use Rattle.words.proofs.Unit.{words-give-the-rows, nothing-of-another}
+use Rattle.history.specs.History.{machineOf, Entry, called, answered, history}
 use Rattle.demands.specs.Unit.{unitAfter, ShieldedWhileRunning}
 use Rattle.demands.proofs.Machine.{accepts, while-running}
 

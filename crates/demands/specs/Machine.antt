@@ -1,5 +1,5 @@
 -- Demand 3 of the mission, sentence by sentence: "For any accepted plan and any finite sequence of ticks and statuses from a cold start ...". The
--- sentences are about any machine over a plan, told by its answers (`history`, crate `switch`, specs/History.antt), so that they can be
+-- sentences are about any machine over a plan, told by its answers (`history`, crate `history`, specs/History.antt), so that they can be
 -- held against a wrong one too (specs/BadVersions.antt). Calls, phases and verdicts are document 01's numbers (crates `protocol` and `refusal`).
 use mathlib.Core.Bool.{true}
 use mathlib.Core.List.{List, [], _∷_, _++_}
@@ -12,14 +12,14 @@ use Rattle.records.specs.Records.{AllU32, endOf}
 use Rattle.plan.specs.Plan.{Plan, frameLength, windowCount, windowOf, ownerOf, offsetOf, budgetOf}
 use Rattle.plan.specs.Faults.{verdictOf}
 use Rattle.accepted.specs.Equal.{EqualBut}
-use Rattle.region.specs.Slots.{Separated}
-use Rattle.region.specs.Words.{slotsUnder}
+use Rattle.words.specs.Slots.{Separated}
+use Rattle.words.specs.Words.{slotsUnder}
 use Rattle.protocol.specs.Numbers.{noCall, saveFor, swapFor, resumeFor, callWords, phaseOf, phaseWords}
-use Rattle.switch.specs.declared.State.{State}
-use Rattle.switch.specs.declared.Answer.{Answer}
-use Rattle.switch.specs.State.{cold, inPhase}
-use Rattle.switch.specs.Reached.{Event, tick, status, wordOf}
-use Rattle.switch.specs.History.{Machine, machineOf, Entry, called, answered, History, next, since, history, openCall}
+use Rattle.state.specs.declared.State.{State}
+use Rattle.state.specs.declared.Answer.{Answer}
+use Rattle.state.specs.State.{cold, inPhase}
+use Rattle.history.specs.Reached.{Event, tick, status, wordOf}
+use Rattle.history.specs.History.{Machine, machineOf, Entry, called, answered, History, next, since, history, openCall}
 
 -- "any accepted plan": the check's verdict on it is 'accepted', which is number 0 at place 0
 abbrev pub CheckAccepts : Plan → Type 0

@@ -18,15 +18,15 @@ use Rattle.accepted.specs.Accepted.{AcceptedIf}
 use Rattle.accepted.specs.Wrong.{FirstWrong}
 use Rattle.lookup.specs.declared.Located.{Located}
 use Rattle.lookup.specs.Lookup.{lookupOf}
-use Rattle.region.specs.Slots.{slotCount}
-use Rattle.region.specs.Words.{noPair, wordsOf}
+use Rattle.words.specs.Slots.{slotCount}
+use Rattle.words.specs.Words.{noPair, wordsOf}
 use Rattle.protocol.specs.Phase.{keptWord}
 use Rattle.protocol.specs.Numbers.{phaseWords}
-use Rattle.switch.specs.declared.State.{State}
-use Rattle.switch.specs.State.{zeros, cold}
-use Rattle.switch.specs.Machine.{coldOf}
-use Rattle.switch.specs.Reached.{Event, tick, status, leads, Reached, ReachedWithin}
-use Rattle.switch.specs.History.{machineOf, History, answerOf, next, history}
+use Rattle.state.specs.declared.State.{State}
+use Rattle.state.specs.State.{zeros, cold}
+use Rattle.state.specs.Start.{coldOf}
+use Rattle.history.specs.Reached.{Event, tick, status, leads, Reached, ReachedWithin}
+use Rattle.history.specs.History.{machineOf, History, answerOf, next, history}
 use Rattle.demands.specs.Machine.{CheckAccepts, RefusedWith}
 
 -- a verdict on a plan: accepted exactly if document 01's sentences hold, else refused with the first that is wrong in document 01's order

@@ -8,11 +8,11 @@ use Prim.Native.Nat.{ℕ}
 use lib.Dec.{eqb}
 use Rattle.plan.specs.Plan.{Plan, ownerOf}
 use Rattle.records.specs.Records.{AllU32}
-use Rattle.region.specs.Manual.{Mpu, programmed}
-use Rattle.region.specs.Words.{wordsOf}
-use Rattle.region.specs.Unit.{OthersOff, ExactlyTheRows, NothingOfAnother}
-use Rattle.switch.specs.Reached.{Event}
-use Rattle.switch.specs.History.{machineOf, Entry, called, answered, History, history}
+use Rattle.words.specs.Manual.{Mpu, programmed}
+use Rattle.words.specs.Words.{wordsOf}
+use Rattle.words.specs.Unit.{OthersOff, ExactlyTheRows, NothingOfAnother}
+use Rattle.history.specs.Reached.{Event}
+use Rattle.history.specs.History.{machineOf, Entry, called, answered, History, history}
 use Rattle.demands.specs.Machine.{CheckAccepts, Runs}
 
 -- the unit after calls and answers, the latest first: call 2, a swap, brings the words of its partition

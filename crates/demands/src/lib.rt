@@ -1,2 +1,1 @@
-// Theorems only: the demands of the mission, each a named statement in specs/ with its proof; the bad versions that they rule out; the table of
-// proved cases; the agreement with the four-window port.
+// Theorems only: the demands of the mission, each a named statement in specs/ with its proof, and the protection unit while the machine runs.

@@ -3,9 +3,10 @@ use Prim.Native.Nat.{ℕ, zero, suc}
 use Rattle.plan.specs.Plan.{Plan}
 use Rattle.protocol.specs.declared.Call.{Call}
 use Rattle.protocol.specs.declared.Call.the-variants.{None, SaveFor, SwapFor, ResumeFor}
-use Rattle.switch.specs.declared.State.{State}
-use Rattle.switch.specs.declared.Answer.{Answer}
-use Rattle.switch.specs.Machine.{coldOf, tickOf, statusOf}
+use Rattle.state.specs.declared.State.{State}
+use Rattle.state.specs.declared.Answer.{Answer}
+use Rattle.state.specs.Start.{coldOf}
+use Rattle.switch.specs.Machine.{tickOf, statusOf}
 
 abbrev pub after : Plan → State → Call → Answer
 after p s None = tickOf p s (s .due)

@@ -4,8 +4,10 @@ ghost use Rattle.plan.specs.Plan.{planOf};
 ghost use Rattle.drive.specs.Drive.{onward, driven};
 use plan::Frame;
 use protocol::Call;
-use switch::Answer;
-use switch::State;
+use state::Answer;
+use state::State;
+use switch::status;
+use switch::tick;
 
 fn go_on(answer: Answer, frame: Frame, windows: &[u32], rows: &[u32]) -> Answer
     ensures { λ a. ⌜ a ≡ onward (planOf frame (now (windows .entry)) (now (rows .entry))) answer ⌝ }
@@ -13,10 +15,10 @@ fn go_on(answer: Answer, frame: Frame, windows: &[u32], rows: &[u32]) -> Answer
     let state = answer.state;
     let call = answer.call;
     match call {
-        Call::None => state.tick(frame, windows, rows, state.due),
-        Call::SaveFor(_) => state.status(frame, windows, rows, 0),
-        Call::SwapFor(_) => state.status(frame, windows, rows, 0),
-        Call::ResumeFor(_) => state.status(frame, windows, rows, 0),
+        Call::None => tick(state, frame, windows, rows, state.due),
+        Call::SaveFor(_) => status(state, frame, windows, rows, 0),
+        Call::SwapFor(_) => status(state, frame, windows, rows, 0),
+        Call::ResumeFor(_) => status(state, frame, windows, rows, 0),
     }
 }
 

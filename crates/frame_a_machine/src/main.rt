@@ -6,8 +6,10 @@ use protocol::Cause;
 use protocol::Phase;
 use protocol::Stage;
 use refusal::Verdict;
-use switch::Answer;
-use switch::State;
+use state::Answer;
+use state::State;
+use switch::status;
+use switch::tick;
 
 const OUT: i32 = 1;
 
@@ -15,6 +17,13 @@ const FRAME: Frame = Frame { length: 50 };
 
 // Owner, offset and budget of each window.
 const FRAME_A: [u32; 12] = [0, 0, 10, 1, 10, 20, 0, 30, 5, 2, 35, 15];
+
+// What is sent after the cold start: ticks, and the status of each call that is open.
+const EVENTS: usize = 17;
+
+const IS_TICK: [u32; EVENTS] = [0, 0, 1, 1, 1, 1, 1, 1, 1, 1, 1, 1, 0, 0, 0, 1, 1];
+
+const WORDS: [u32; EVENTS] = [0, 0, 0, 1, 2, 3, 4, 5, 6, 7, 8, 9, 0, 0, 0, 12, 13];
 
 fn say(words: &[u8]) {
     io::write_all(OUT, words);
@@ -106,44 +115,40 @@ fn say_answer(answer: Answer) {
     say(b"\n");
 }
 
-fn sent_tick(state: State, t: u32) -> State {
-    let answer = state.tick(FRAME, &FRAME_A, &[], t);
+fn sent_tick(state: State, windows: &[u32], t: u32) -> State {
     say_with(b"tick ", t);
+    let answer = tick(state, FRAME, windows, &[], t);
     say_answer(answer);
     answer.state
 }
 
-fn sent_status(state: State, word: u32) -> State {
-    let answer = state.status(FRAME, &FRAME_A, &[], word);
+fn sent_status(state: State, windows: &[u32], word: u32) -> State {
     say_with(b"status ", word);
+    let answer = status(state, FRAME, windows, &[], word);
     say_answer(answer);
     answer.state
 }
 
-fn sent_window_0(state: State) -> State {
-    let mut now = state;
-    let mut t: u32 = 0;
-    while t < 10 {
-        now = sent_tick(now, t);
-        t += 1;
+fn sent(state: State, windows: &[u32], is_tick: u32, word: u32) -> State {
+    if is_tick == 1 {
+        sent_tick(state, windows, word)
+    } else {
+        sent_status(state, windows, word)
     }
-    now
 }
 
-fn started() -> State {
-    let cold = State::cold_start(FRAME, &FRAME_A, &[]);
-    say(b"cold start");
-    say_answer(cold);
-    cold.state
+fn send_all(start: State, windows: &[u32]) {
+    let mut state = start;
+    let mut i: usize = 0;
+    while i < EVENTS {
+        state = sent(state, windows, IS_TICK[i], WORDS[i]);
+        i += 1;
+    }
 }
 
 fn main() {
-    let swapped = sent_status(started(), 0);
-    let at_window_0 = sent_status(swapped, 0);
-    let at_end = sent_window_0(at_window_0);
-    let saved = sent_status(at_end, 0);
-    let swapped_again = sent_status(saved, 0);
-    let at_window_1 = sent_status(swapped_again, 0);
-    let stopped = sent_tick(at_window_1, 12);
-    sent_tick(stopped, 13);
+    let cold = State::cold_start(FRAME, &FRAME_A, &[]);
+    say(b"cold start");
+    say_answer(cold);
+    send_all(cold.state, &FRAME_A);
 }

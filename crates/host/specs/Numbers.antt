@@ -3,7 +3,7 @@ use Rattle.refusal.specs.declared.Verdict.{Verdict}
 use Rattle.refusal.specs.declared.Verdict.the-variants.{Accepted, Refused}
 use Rattle.refusal.specs.Table.{numberOf, placeOf}
 use Rattle.lookup.specs.declared.Located.{Located}
-use Rattle.region.specs.declared.Words.{Words}
+use Rattle.words.specs.declared.Words.{Words}
 use Rattle.host.specs.declared.Outcome.{Outcome}
 use Rattle.host.specs.declared.Whereabouts.{Whereabouts}
 use Rattle.host.specs.declared.RegionWords.{RegionWords}

@@ -4,12 +4,12 @@ ghost use mathlib.Core.Path.{_≡_};
 ghost use Rattle.plan.specs.Plan.{planOf};
 ghost use Rattle.plan.specs.Faults.{verdictOf};
 ghost use Rattle.lookup.specs.Lookup.{lookupOf};
-ghost use Rattle.region.specs.Words.{wordsOf};
+ghost use Rattle.words.specs.Words.{wordsOf};
 ghost use Rattle.host.specs.Numbers.{outcomeOf, whereaboutsOf, regionWordsOf};
 use plan::Frame;
 use records::PartitionNo;
 use refusal::Verdict;
-use region::Pair;
+use words::Pair;
 
 #[repr(C)]
 pub struct Outcome {

@@ -2,7 +2,6 @@
 // Every function takes any frame, and refuses what it cannot use.
 ghost use mathlib.Core.Path.{_≡_};
 ghost use Prim.Native.Nat.{_+_};
-ghost use Rattle.timeline.specs.Windows.{nextWindow};
 use refusal::Verdict;
 
 mod frame;
@@ -32,11 +31,4 @@ pub fn window_end(offset: u32, budget: u32) -> u64
     ensures { λ r. ⌜ r ≡ offset + budget ⌝ }
 {
     offset as u64 + budget as u64
-}
-
-// The window after i, window 0 after the last.
-pub fn next_window(i: u32) -> u32
-    ensures { λ r. ⌜ r ≡ nextWindow 4 i ⌝ }
-{
-    if i < LAST_WINDOW { i + 1 } else { 0 }
 }

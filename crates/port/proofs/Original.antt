@@ -17,10 +17,12 @@ use Rattle.major_frame.proofs.FrameLaws.{follow, accepted-inv as frame-accepted
 use Rattle.switcher.specs.declared.SwPhase.{SwPhase}
 use Rattle.switcher.specs.declared.SwPhase.the-variants.{Running, SaveCtx, ProgramRegions, Resume}
 use Rattle.switcher.specs.declared.Switcher.{Switcher}
-use Rattle.switcher.specs.declared.Switched.{Switched}
+use Rattle.run_switch.specs.declared.Switched.{Switched}
 use Rattle.switcher.specs.declared.Stepped.{Stepped}
-use Rattle.switcher.specs.Switch.{Inv, inPhase, stateVerdict, atBoundary, moved, preempted, saved, swappedIn, resumed, stepped, newOf, tickOf, markSavedOf, markSwappedOf, markResumedOf, runSwitchOf}
-use Rattle.switcher.proofs.SwitchLaws.{in-phase, inv-accepted, new-started, boundary-says, step-cases, one-call, two-calls, three-calls, switch-due, run-switches}
+use Rattle.switcher.specs.Switch.{Inv, inPhase, stateVerdict, atBoundary, moved, preempted, saved, swappedIn, resumed, stepped, newOf, tickOf, markSavedOf, markSwappedOf, markResumedOf}
+use Rattle.run_switch.specs.RunSwitch.{runSwitchOf}
+use Rattle.switcher.proofs.SwitchLaws.{in-phase, inv-accepted, new-started, boundary-says, step-cases}
+use Rattle.run_switch.proofs.RunSwitchLaws.{one-call, two-calls, three-calls, switch-due, run-switches}
 use Rattle.port.specs.Original.{Accepts, Check, CurrentWindow, New, Tick, MarkSaved, MarkSwapped, MarkResumed, RunSwitch, SwitchCalls}
 
 pub check : (f : MajorFrame) → Check f (frameVerdict f)

@@ -20,9 +20,11 @@ use Rattle.major_frame.specs.Frame.{FrameInv, windowTest, frameVerdict, current
 use Rattle.major_frame.proofs.FrameLaws.{test-accepted, budget-refused, start-refused, window-refused, length-refused, length-refuses, refused-first, first-refused, last-refused, lookup-refused, lookup-past, lookup-found, accepted-inv as frame-accepted-inv, inv-accepted as frame-inv-accepted}
 use Rattle.switcher.specs.declared.SwPhase.the-variants.{SaveCtx}
 use Rattle.switcher.specs.declared.Switcher.{Switcher}
-use Rattle.switcher.specs.Seam.{callsWords}
-use Rattle.switcher.specs.Switch.{stateVerdict, stepped, newOf, switchVerdict, runSwitchOf}
-use Rattle.switcher.proofs.SwitchLaws.{in-phase, accepted-inv, inv-accepted, frame-refused, only-strange, switch-refused, switch-refuses, switch-outside, switch-due, new-refused, new-started, step-verdict, step-refused, run-verdict, run-refused}
+use Rattle.run_switch.specs.Seam.{callsWords}
+use Rattle.switcher.specs.Switch.{stateVerdict, stepped, newOf}
+use Rattle.run_switch.specs.RunSwitch.{switchVerdict, runSwitchOf}
+use Rattle.switcher.proofs.SwitchLaws.{in-phase, accepted-inv, inv-accepted, frame-refused, only-strange, new-refused, new-started, step-verdict, step-refused}
+use Rattle.run_switch.proofs.RunSwitchLaws.{switch-refused, switch-refuses, switch-outside, switch-due, run-verdict, run-refused}
 use Rattle.port.specs.Refusals.{Refuses, RightBefore, NoBudget, OtherStart, OtherLength, FrameRefusals, LookupRefusals, NewRefusals, StateRefusals, StepRefusals, SwitchRefusals, PortRefusals}
 
 refused-with : (v : Verdict) → Refuses v → (r : Refusal) × (v ≡ Refused r)

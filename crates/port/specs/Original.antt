@@ -16,9 +16,10 @@ use Rattle.switcher.specs.declared.SwPhase.the-variants.{Running, SaveCtx, Prog
 use Rattle.switcher.specs.declared.Switcher.{Switcher}
 use Rattle.switcher.specs.declared.Made.{Made}
 use Rattle.switcher.specs.declared.Stepped.{Stepped}
-use Rattle.switcher.specs.declared.Switched.{Switched}
-use Rattle.switcher.specs.Seam.{callsWords}
-use Rattle.switcher.specs.Switch.{Inv, Boundary, saved, swappedIn, resumed, outgoingOf, incomingOf}
+use Rattle.run_switch.specs.declared.Switched.{Switched}
+use Rattle.run_switch.specs.Seam.{callsWords}
+use Rattle.switcher.specs.Switch.{Inv, Boundary, saved, swappedIn, resumed}
+use Rattle.run_switch.specs.RunSwitch.{outgoingOf, incomingOf}
 
 abbrev pub Accepts : Verdict → Type 0
 Accepts v = outcome v ≡ (0, 0)

@@ -15,9 +15,10 @@ use Rattle.switcher.specs.declared.SwPhase.the-variants.{SaveCtx}
 use Rattle.switcher.specs.declared.Switcher.{Switcher}
 use Rattle.switcher.specs.declared.Made.{Made}
 use Rattle.switcher.specs.declared.Stepped.{Stepped}
-use Rattle.switcher.specs.declared.Switched.{Switched}
-use Rattle.switcher.specs.Seam.{callsWords}
-use Rattle.switcher.specs.Switch.{Inv, zeros, newOf, tickOf, markSavedOf, markSwappedOf, markResumedOf, runSwitchOf}
+use Rattle.run_switch.specs.declared.Switched.{Switched}
+use Rattle.run_switch.specs.Seam.{callsWords}
+use Rattle.switcher.specs.Switch.{Inv, zeros, newOf, tickOf, markSavedOf, markSwappedOf, markResumedOf}
+use Rattle.run_switch.specs.RunSwitch.{runSwitchOf}
 use Rattle.port.specs.Original.{Accepts}
 
 abbrev pub Refuses : Verdict → Type 0

@@ -1,9 +1,8 @@
-// Document 01's cases for the four-window port, one to a line: the frames' verdicts, lookups, then steps and switches over frame A.
-// A verdict is its number and place, 0 0 where accepted; a state is its window, phase (0 Running to 3 Resume) and mark.
+// Document 01's cases for the switcher of the four-window port, one to a line: steps and switches over frame A. A verdict is its number and place, 0 0 where accepted; a state is its window, phase (0 Running to 3 Resume) and mark.
 use major_frame::MajorFrame;
 use refusal::Verdict;
-use switcher::Calls;
-use switcher::SeamCall;
+use run_switch::Calls;
+use run_switch::SeamCall;
 use switcher::Stepped;
 use switcher::SwPhase;
 use switcher::Switcher;
@@ -38,8 +37,8 @@ fn put_state(s: Switcher) {
 }
 
 fn put_call(call: SeamCall) {
-    put(switcher::call_number(call));
-    put(switcher::call_partition(call));
+    put(run_switch::call_number(call));
+    put(run_switch::call_partition(call));
 }
 
 fn put_calls(calls: Calls) {
@@ -71,7 +70,7 @@ fn show_tick(name: &[u8], s: Switcher, t: u32) -> Switcher {
 }
 
 fn show_switch(name: &[u8], s: Switcher, save: u32, swap: u32, resume: u32) {
-    let r = s.run_switch(save, swap, resume);
+    let r = run_switch::run_switch(s, save, swap, resume);
     let verdict = r.verdict;
     put_verdict(name, verdict);
     put_state(r.state);
@@ -79,64 +78,14 @@ fn show_switch(name: &[u8], s: Switcher, save: u32, swap: u32, resume: u32) {
     end();
 }
 
-// Owners 0, 1, 0, 2, as in frame A.
-fn frame(
-    o0: u32,
-    o1: u32,
-    o2: u32,
-    o3: u32,
-    b0: u32,
-    b1: u32,
-    b2: u32,
-    b3: u32,
-    frame_len: u32,
-) -> MajorFrame {
+// Frame A with that budget of window 2 and that length.
+fn frame(budget: u32, frame_len: u32) -> MajorFrame {
     MajorFrame {
         partition_id: [0, 1, 0, 2],
-        offset: [o0, o1, o2, o3],
-        budget: [b0, b1, b2, b3],
+        offset: [0, 10, 30, 35],
+        budget: [10, 20, budget, 15],
         frame_len,
     }
-}
-
-fn frame_a() -> MajorFrame {
-    frame(0, 10, 30, 35, 10, 20, 5, 15, 50)
-}
-
-fn show_frame(name: &[u8], f: MajorFrame) {
-    put_verdict(name, f.check());
-    end();
-}
-
-fn show_frames() {
-    show_frame(b"A:", frame_a());
-    show_frame(
-        b"sum 2^32:",
-        frame(0, 1, 2, 4294967295, 1, 1, 4294967293, 1, 0),
-    );
-    show_frame(
-        b"longest:",
-        frame(0, 1, 2, 4294967294, 1, 1, 4294967292, 1, 4294967295),
-    );
-    show_frame(b"2 before 3:", frame(5, 10, 30, 35, 0, 20, 5, 15, 50));
-    show_frame(b"gap:", frame(0, 10, 31, 35, 10, 20, 4, 15, 50));
-    show_frame(b"2 before 5:", frame(0, 10, 30, 35, 10, 20, 5, 0, 51));
-    show_frame(b"length:", frame(0, 10, 30, 35, 10, 20, 5, 15, 51));
-}
-
-fn show_lookup(name: &[u8], t: u32) {
-    let r = frame_a().current_window(t);
-    let verdict = r.verdict;
-    put_verdict(name, verdict);
-    put(r.window);
-    end();
-}
-
-fn show_lookups() {
-    show_lookup(b"at 9:", 9);
-    show_lookup(b"at 10:", 10);
-    show_lookup(b"at 49:", 49);
-    show_lookup(b"at 50:", 50);
 }
 
 fn show_new(name: &[u8], f: MajorFrame) -> Switcher {
@@ -171,7 +120,7 @@ fn show_marks(due: Switcher) -> Switcher {
 
 // A state over frame A with that length.
 fn state(frame_len: u32, cur: u32, phase: SwPhase, swapped: bool) -> Switcher {
-    let frame = frame(0, 10, 30, 35, 10, 20, 5, 15, frame_len);
+    let frame = frame(5, frame_len);
     Switcher {
         frame,
         cur,
@@ -187,10 +136,8 @@ fn show_strange() {
 }
 
 fn main() {
-    show_frames();
-    show_lookups();
-    show_new(b"bad new:", frame(0, 10, 30, 35, 10, 20, 0, 15, 50));
-    let s = show_new(b"new:", frame_a());
+    show_new(b"bad new:", frame(0, 50));
+    let s = show_new(b"new:", frame(5, 50));
     let due = show_steps(s);
     show_switches(due);
     let next = show_marks(due);

@@ -5,11 +5,11 @@ use mathlib.Core.Logic.{_↔_}
 use mathlib.Core.Path.{_≡_}
 use Prim.Native.Nat.{ℕ, _^_}
 use Rattle.plan.specs.Plan.{Plan}
-use Rattle.region.specs.Manual.{Mpu}
-use Rattle.region.specs.Unit.{OthersOff}
-use Rattle.switch.specs.declared.State.{State}
-use Rattle.switch.specs.Reached.{Event, ReachedWithin}
-use Rattle.switch.specs.History.{machineOf, history}
+use Rattle.words.specs.Manual.{Mpu}
+use Rattle.words.specs.Unit.{OthersOff}
+use Rattle.state.specs.declared.State.{State}
+use Rattle.history.specs.Reached.{Event, ReachedWithin}
+use Rattle.history.specs.History.{machineOf, history}
 use Rattle.demands.specs.Machine.{CheckAccepts, Runs, Sentences}
 use Rattle.demands.specs.Refusals.{Answers, outcomeOf}
 use Rattle.demands.specs.Unit.{Shielded}

@@ -4,7 +4,7 @@ ghost use Rattle.plan.specs.Plan.{planOf};
 ghost use Rattle.promise.specs.Lent.{HoldsOfPlan, HoldsOfState};
 use plan::Frame;
 use records::lent;
-use switch::State;
+use state::State;
 
 pub fn of_any_plan(frame: Frame, windows: &[u32], rows: &[u32])
     ensures { λ _. ⌜ HoldsOfPlan (planOf frame (now (windows .entry)) (now (rows .entry))) ⌝ }

@@ -1,6 +1,8 @@
 // Why an input was refused: the host's error codes, and one enum of refusals with its number, its place and its host
 // code (document 01, "Refusal numbers and their place").
+ghost use mathlib.Core.Bool.{not};
 ghost use mathlib.Core.Path.{_≡_};
+ghost use Rattle.refusal.specs.First.{refuseIf, orElse};
 ghost use Rattle.refusal.specs.Table.{numberOf, placeOf, hostCodeOf};
 
 pub mod code;
@@ -97,5 +99,19 @@ pub fn host_code(r: Refusal) -> i32
         14 => code::ECANCELED,
         17 => code::EBADF,
         _ => code::EINVAL,
+    }
+}
+
+// An earlier refusal stands; else a test that fails is refused with `r`.
+pub fn or_refuse(verdict: Verdict, passes: bool, r: Refusal) -> Verdict
+    ensures { λ v. ⌜ v ≡ orElse verdict (refuseIf (not passes) r) ⌝ }
+{
+    let Verdict::Accepted = verdict else {
+        return verdict;
+    };
+    if passes {
+        Verdict::Accepted
+    } else {
+        Verdict::Refused(r)
     }
 }

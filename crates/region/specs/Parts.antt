@@ -1,13 +1,13 @@
--- What the private functions of the words work on. Nothing here has to be believed: proofs/WordsLaws.antt shows that together they are
+-- What the private functions of the words work on. Nothing here has to be believed: proofs/PartsLaws.antt shows that together they are
 -- `wordsOf`.
 use Prim.Native.Nat.{ℕ, _<_}
 use lib.Count.{trailingZeros}
 use lib.ListN.{getD}
 use Rattle.own.specs.declared.OwnRows.{OwnRows}
 use Rattle.own.specs.Own.{noRow}
-use Rattle.region.specs.declared.Pair.{Pair}
-use Rattle.region.specs.Slots.{atSlot}
-use Rattle.region.specs.Words.{rowPair, freePair}
+use Rattle.words.specs.declared.Pair.{Pair}
+use Rattle.words.specs.Slots.{atSlot}
+use Rattle.words.specs.Words.{rowPair, freePair}
 
 -- every row has an even size, so that one less than its trailing zeros is a number
 abbrev pub EvenSizes : OwnRows → Type 0

@@ -2,8 +2,8 @@
 ghost use mathlib.Core.Path.{_≡_};
 ghost use Prim.Native.Nat.{_<_};
 ghost use Rattle.plan.specs.Plan.{planOf};
-ghost use Rattle.region.specs.Slots.{slotCount};
-ghost use Rattle.region.specs.Words.{upTo, noWords, wordsOf};
+ghost use Rattle.words.specs.Slots.{slotCount};
+ghost use Rattle.words.specs.Words.{upTo, noWords, wordsOf};
 ghost use Rattle.region.specs.Parts.{EvenSizes, slotAt};
 use own::OwnRows;
 use own::own_rows;
@@ -11,20 +11,10 @@ use plan::Frame;
 use records::PartitionNo;
 use refusal::Refusal;
 use refusal::Verdict;
+use words::Pair;
+use words::Words;
 
 mod v7;
-
-// What goes into a slot's two registers.
-#[repr(C)]
-pub struct Pair {
-    pub first: u32,
-    pub second: u32,
-}
-
-pub struct Words {
-    pub slots: [Pair; 8],
-    pub verdict: Verdict,
-}
 
 const SLOTS: u32 = 8;
 

@@ -2,10 +2,10 @@
 ghost use mathlib.Core.Path.{_≡_};
 ghost use Prim.Native.Nat.{_<_};
 ghost use lib.Count.{trailingZeros};
-ghost use Rattle.region.specs.Slots.{slotCount};
-ghost use Rattle.region.specs.Words.{apOf, xnOf, rowPair, freePair};
-use crate::Pair;
+ghost use Rattle.words.specs.Slots.{slotCount};
+ghost use Rattle.words.specs.Words.{apOf, xnOf, rowPair, freePair};
 use records::Row;
+use words::Pair;
 
 // Where the fields start: in the first word ADDR and VALID, in the second XN, AP, TEX, SIZE and ENABLE.
 const ADDR: u32 = 0x20;

@@ -1,12 +1,2 @@
-pub mod Answers
-pub mod Cases
-pub mod EqualLaws
-pub mod Exact
-pub mod Fits
-pub mod GuardLaws
-pub mod HistoryLaws
 pub mod MachineLaws
-pub mod Preserved
-pub mod Reach
-pub mod StateLaws
 pub mod StepLaws

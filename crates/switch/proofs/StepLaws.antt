@@ -16,9 +16,10 @@ use Rattle.protocol.specs.declared.Cause.the-variants.{WrongTick, TickInSwitch,
 use Rattle.protocol.specs.declared.Phase.{Phase}
 use Rattle.protocol.specs.declared.Phase.the-variants.{At, Stopped}
 use Rattle.protocol.specs.Phase.{callOpen}
-use Rattle.switch.specs.declared.State.{State}
-use Rattle.switch.specs.State.{ticked}
-use Rattle.switch.specs.Step.{Timetable, quiet, stop, refusedAnswer, save, tickTaken, tickAt, tickIn, tickMove, zeroAt, replyAt, statusAt, statusIn, statusMove}
+use Rattle.state.specs.declared.State.{State}
+use Rattle.state.specs.State.{ticked}
+use Rattle.state.specs.Answer.{quiet, stop, refusedAnswer}
+use Rattle.switch.specs.Step.{Timetable, save, tickTaken, tickAt, tickIn, tickMove, zeroAt, replyAt, statusAt, statusIn, statusMove}
 
 module _ (tt : Timetable) (s : State) (t : ℕ) where
   pub taken-last : t + 1 ≡ endOf (nthWindow (tt .windows) (s .current .0))

@@ -1,26 +1,16 @@
 -- What the entry points answer: the plan's numbers, 17, 14, 13, or the step (document 01, "The machine" and "Refusal numbers and their
--- place": "a refusal hands back the state it got; where none was given, a state of zeros in Running with `swapped` false; ... no call asked").
+-- place": "a refusal hands back the state it got; ... no call asked").
 use Prim.Native.Nat.{ℕ}
 use Rattle.refusal.specs.declared.Refusal.the-variants.{NoCallOpen}
 use Rattle.refusal.specs.declared.Verdict.{Verdict}
-use Rattle.refusal.specs.declared.Verdict.the-variants.{Accepted, Refused}
 use Rattle.refusal.specs.First.{refuseIf, orElse}
 use Rattle.plan.specs.Plan.{Plan}
-use Rattle.plan.specs.Faults.{verdictOf}
 use Rattle.protocol.specs.Phase.{runs}
-use Rattle.switch.specs.declared.State.{State}
-use Rattle.switch.specs.declared.Answer.{Answer}
-use Rattle.switch.specs.State.{zeros}
-use Rattle.switch.specs.Step.{timetableOf, refusedAnswer, coldMove, tickMove, statusMove}
-use Rattle.switch.specs.Guard.{guardOf}
-
--- the step's answer, if nothing is wrong
-unfoldable pub ifAccepted : Verdict → State → Answer → Answer
-ifAccepted Accepted s to = to
-ifAccepted (Refused r) s to = refusedAnswer s (Refused r)
-
-unfoldable pub coldOf : Plan → Answer
-coldOf p = ifAccepted (verdictOf p) zeros (coldMove (p .windows))
+use Rattle.state.specs.declared.State.{State}
+use Rattle.state.specs.declared.Answer.{Answer}
+use Rattle.state.specs.Start.{ifAccepted}
+use Rattle.switch.specs.Step.{timetableOf, tickMove, statusMove}
+use Rattle.guard.specs.Guard.{guardOf}
 
 unfoldable pub tickOf : Plan → State → ℕ → Answer
 tickOf p s t = ifAccepted (guardOf p s) s (tickMove (timetableOf p) s t)

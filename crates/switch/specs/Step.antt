@@ -5,25 +5,22 @@ use mathlib.Core.List.{List}
 use Prim.Native.Nat.{ℕ, _+_}
 use lib.Dec.{eqb}
 use Rattle.refusal.specs.declared.Refusal.the-variants.{NoCallOpen}
-use Rattle.refusal.specs.declared.Verdict.{Verdict}
-use Rattle.refusal.specs.declared.Verdict.the-variants.{Accepted, Refused}
+use Rattle.refusal.specs.declared.Verdict.the-variants.{Refused}
 use Rattle.timeline.specs.Windows.{nextWindow, nextTick}
-use Rattle.records.specs.declared.PartitionNo.{PartitionNo}
 use Rattle.records.specs.declared.WindowNo.{WindowNo}
 use Rattle.plan.specs.Plan.{Plan, frameLength, windowCount}
 use Rattle.records.specs.Records.{nthWindow, endOf}
-use Rattle.protocol.specs.declared.Call.{Call}
-use Rattle.protocol.specs.declared.Call.the-variants.{None, SaveFor, SwapFor, ResumeFor}
+use Rattle.protocol.specs.declared.Call.the-variants.{SaveFor, SwapFor, ResumeFor}
 use Rattle.protocol.specs.declared.Stage.{Stage}
 use Rattle.protocol.specs.declared.Stage.the-variants.{Running, SaveCtx, ProgramRegions, Resume}
-use Rattle.protocol.specs.declared.Cause.{Cause}
 use Rattle.protocol.specs.declared.Cause.the-variants.{WrongTick, TickInSwitch, BadStatus}
 use Rattle.protocol.specs.declared.Phase.{Phase}
 use Rattle.protocol.specs.declared.Phase.the-variants.{At, Stopped}
 use Rattle.protocol.specs.Phase.{callOpen}
-use Rattle.switch.specs.declared.State.{State}
-use Rattle.switch.specs.declared.Answer.{Answer}
-use Rattle.switch.specs.State.{windowNo, cold, ticked, asked, resumed, stopped}
+use Rattle.state.specs.declared.State.{State}
+use Rattle.state.specs.declared.Answer.{Answer}
+use Rattle.state.specs.State.{windowNo, ticked, asked, resumed}
+use Rattle.state.specs.Answer.{owner, moved, quiet, stop, refusedAnswer}
 
 -- what the machine knows of a plan: never the rows
 pub record Timetable : Type 0 where
@@ -37,25 +34,8 @@ timetable length count windows = record { length = length; count = count; window
 abbrev pub timetableOf : Plan → Timetable
 timetableOf p = timetable (frameLength p) (windowCount p) (p .windows)
 
-abbrev pub owner : List ℕ → WindowNo → PartitionNo
-owner windows w = nthWindow windows (w .0) .owner
-
 abbrev pub lastTick : List ℕ → WindowNo → ℕ → Bool
 lastTick windows w t = eqb (t + 1) (endOf (nthWindow windows (w .0)))
-
-abbrev pub moved : State → Call → Answer
-moved s call = record { state = s; call = call; verdict = Accepted }
-
--- nothing is asked
-abbrev pub quiet : State → Answer
-quiet s = moved s None
-
-abbrev pub stop : State → Stage → Cause → Answer
-stop s stage cause = quiet (stopped s stage cause)
-
--- "a refusal hands back the state it got; ... no call asked"
-abbrev pub refusedAnswer : State → Verdict → Answer
-refusedAnswer s verdict = record { state = s; call = None; verdict = verdict }
 
 -- "SaveCtx, target is the next window (0 after the last), mark false, asks save(owner of current)"
 abbrev pub save : ℕ → List ℕ → State → Answer
@@ -69,10 +49,6 @@ swap windows s = moved (asked s ProgramRegions (s .target) (s .swapped)) (SwapFo
 -- "to Resume, mark true, asks resume(owner of target)"
 abbrev pub resume : List ℕ → State → Answer
 resume windows s = moved (asked s Resume (s .target) true) (ResumeFor (owner windows (s .target)))
-
--- "Cold start: ... asks swap(owner of 0)"
-unfoldable pub coldMove : List ℕ → Answer
-coldMove windows = moved cold (SwapFor (owner windows (cold .target)))
 
 -- "Tick, Running, t = due"
 unfoldable pub tickTaken : Timetable → State → ℕ → Answer

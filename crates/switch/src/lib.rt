@@ -1,31 +1,40 @@
 // The machine that switches between partitions (document 01, "The machine"): a state goes in by value, with one tick or one status; the
-// next state comes back, with the call that the host is to make. `make` makes states and answers, `next` says what follows a tick and a
-// window, `step` what one event does, `guard` which states are let in, and `machine` has the entry points. Each looks at those before it.
-use protocol::Call;
-use protocol::Phase;
-use records::WindowNo;
+// next state comes back, with the call that the host is to make. An entry point is the guard, then the step, which stays private since it
+// refuses nothing.
+ghost use mathlib.Core.Path.{_≡_};
+ghost use Rattle.plan.specs.Plan.{planOf};
+ghost use Rattle.switch.specs.Machine.{tickOf, statusOf};
+use crate::step::status_at;
+use crate::step::tick_at;
+use guard::guard;
+use plan::Frame;
 use refusal::Verdict;
+use state::Answer;
+use state::State;
 
-mod guard;
-mod machine;
-mod make;
-mod next;
 mod step;
 
-pub struct State {
-    pub current: WindowNo,
-    // where the switch leads; the current window if none is under way
-    pub target: WindowNo,
-    // the only tick that is right
-    pub due: u32,
-    // whether the target's regions are programmed
-    pub swapped: bool,
-    pub phase: Phase,
+pub fn tick(state: State, frame: Frame, windows: &[u32], rows: &[u32], t: u32) -> Answer
+    ensures { λ a. ⌜ a ≡ tickOf (planOf frame (now (windows .entry)) (now (rows .entry))) state t ⌝ }
+{
+    let guarded = guard(state, frame, windows, rows);
+    let stage = guarded.stage;
+    let count = guarded.count;
+    let verdict = guarded.verdict;
+    let Verdict::Accepted = verdict else {
+        return state.refused(verdict);
+    };
+    tick_at(state, stage, frame.length, count, windows, t)
 }
 
-// The state after the event, and the call to make; or why not, with the state as it came.
-pub struct Answer {
-    pub state: State,
-    pub call: Call,
-    pub verdict: Verdict,
+pub fn status(state: State, frame: Frame, windows: &[u32], rows: &[u32], word: u32) -> Answer
+    ensures { λ a. ⌜ a ≡ statusOf (planOf frame (now (windows .entry)) (now (rows .entry))) state word ⌝ }
+{
+    let guarded = guard(state, frame, windows, rows);
+    let stage = guarded.stage;
+    let verdict = guarded.verdict;
+    let Verdict::Accepted = verdict else {
+        return state.refused(verdict);
+    };
+    status_at(state, stage, windows, word)
 }

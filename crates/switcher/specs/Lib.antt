@@ -1,2 +1,1 @@
-pub mod Seam
 pub mod Switch

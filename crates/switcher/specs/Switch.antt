@@ -5,21 +5,18 @@ use mathlib.Core.List.{List, [], _∷_}
 use mathlib.Core.Path.{_≡_}
 use Prim.Native.Nat.{ℕ, _+_, _<_}
 use lib.Dec.{eqb, ltb}
-use Rattle.refusal.specs.declared.Refusal.the-variants.{NoCallOpen, StrangeState}
+use Rattle.refusal.specs.declared.Refusal.the-variants.{StrangeState}
 use Rattle.refusal.specs.declared.Verdict.{Verdict}
 use Rattle.refusal.specs.declared.Verdict.the-variants.{Accepted, Refused}
 use Rattle.refusal.specs.First.{refuseIf, orElse}
 use Rattle.timeline.specs.Windows.{nextWindow}
 use Rattle.major_frame.specs.declared.MajorFrame.{MajorFrame}
-use Rattle.major_frame.specs.Frame.{FrameInv, partitionAt, winEnd, frameVerdict}
+use Rattle.major_frame.specs.Frame.{FrameInv, winEnd, frameVerdict}
 use Rattle.switcher.specs.declared.SwPhase.{SwPhase}
 use Rattle.switcher.specs.declared.SwPhase.the-variants.{Running, SaveCtx, ProgramRegions, Resume}
 use Rattle.switcher.specs.declared.Switcher.{Switcher}
-use Rattle.switcher.specs.declared.SeamCall.the-variants.{NotMade, CtxSave, RegionSwap, CtxResume}
-use Rattle.switcher.specs.declared.Calls.{Calls}
 use Rattle.switcher.specs.declared.Made.{Made}
 use Rattle.switcher.specs.declared.Stepped.{Stepped}
-use Rattle.switcher.specs.declared.Switched.{Switched}
 
 -- `inv`, conjunct by conjunct
 pub record Inv (s : Switcher) : Type 0 where
@@ -112,40 +109,3 @@ markSwappedOf s = stepped (stateVerdict s) s (swappedIn s) (inPhase (s .phase) P
 
 abbrev pub markResumedOf : Switcher → Stepped
 markResumedOf s = stepped (stateVerdict s) s (resumed s) (inPhase (s .phase) Resume)
-
--- `run_switch`: the state's refusal, else 13 outside SaveCtx
-unfoldable pub switchVerdict : Switcher → Verdict
-switchVerdict s = orElse (stateVerdict s) (refuseIf (not (inPhase (s .phase) SaveCtx)) NoCallOpen)
-
--- how many calls it makes: none where it refuses, else up to the first that gets a nonzero status
-unfoldable pub callsMade : Verdict → (save swap : ℕ) → ℕ
-callsMade Accepted save swap = cond (eqb save 0) (cond (eqb swap 0) 3 2) 1
-callsMade (Refused r) save swap = 0
-
--- the first of these three: the outgoing partition is saved, the incoming one's regions are programmed, then it is resumed
-unfoldable pub callsOf : (made outgoing incoming : ℕ) → Calls
-callsOf made outgoing incoming =
-    record {
-      first = cond (ltb 0 made) (CtxSave outgoing) NotMade;
-      second = cond (ltb 1 made) (RegionSwap incoming) NotMade;
-      third = cond (ltb 2 made) (CtxResume incoming) NotMade;
-    }
-
--- what they leave: what the marks lead to, up to the phase whose call got a nonzero status; a refused state comes back as it came
-unfoldable pub leftAfter : (made resume : ℕ) → Switcher → Switcher
-leftAfter made resume s =
-    cond (ltb made 2) s
-    (cond (ltb made 3) (saved s) (cond (eqb resume 0) (resumed (swappedIn (saved s))) (swappedIn (saved s))))
-
--- the owners of the current window and of the next
-abbrev pub outgoingOf : Switcher → ℕ
-outgoingOf s = partitionAt (s .frame) (s .cur)
-
-abbrev pub incomingOf : Switcher → ℕ
-incomingOf s = partitionAt (s .frame) (nextWindow 4 (s .cur))
-
-unfoldable pub runSwitchOf : Switcher → (save swap resume : ℕ) → Switched
-runSwitchOf s save swap resume =
-    let verdict = switchVerdict s in
-    let made = callsMade verdict save swap in
-    record { state = leftAfter made resume s; calls = callsOf made (outgoingOf s) (incomingOf s); verdict = verdict }

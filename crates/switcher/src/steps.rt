@@ -6,10 +6,11 @@ use crate::Made;
 use crate::Stepped;
 use crate::SwPhase;
 use crate::Switcher;
-use crate::guard::in_phase;
+use crate::in_phase;
 use major_frame::MajorFrame;
-use major_frame::next_window;
+use major_frame::WINDOWS;
 use refusal::Verdict;
+use timeline::next_window;
 
 // A step is taken from an accepted state that is in the step's phase, if it is due.
 fn moves(verdict: Verdict, ready: bool, due: bool) -> bool
@@ -121,7 +122,7 @@ impl Switcher {
     pub fn mark_resumed(self) -> Stepped
         ensures { λ r. ⌜ r ≡ markResumedOf self ⌝ }
     {
-        let cur = next_window(self.cur);
+        let cur = next_window(WINDOWS, self.cur);
         self.step(SwPhase::Resume, true, cur, SwPhase::Running, self.swapped)
     }
 }

@@ -6,7 +6,7 @@ use native.Mathlib.Numerals.{add-one}
 use native.Mathlib.Omega.{arith}
 use borrow.Author.Needs.{needs}
 use Rattle.plan.specs.Plan.{planOf}
-use Rattle.switch.specs.declared.Answer.{Answer}
+use Rattle.state.specs.declared.Answer.{Answer}
 use Rattle.drive.specs.Drive.{onward, driven}
 use Rattle.drive.proofs.shillingnook_driven.Statement.{statement}
 use Rattle.drive.proofs.shillingnook_driven.Tie as tie

@@ -2,7 +2,7 @@
 -- Assumes nothing.
 use mathlib.Core.Path.{sym, _∙_}
 use borrow.Author.Needs.{needs}
-use Rattle.region.proofs.SlotLaws.{filled-slot, free-slot}
+use Rattle.words.proofs.SlotLaws.{filled-slot, free-slot}
 use Rattle.region.proofs.slot_at.Statement.{statement}
 use Rattle.region.proofs.slot_at.Tie as tie
 

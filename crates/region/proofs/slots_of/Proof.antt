@@ -5,9 +5,9 @@ use Prim.Native.Nat.{_-_, _≤_}
 use native.Mathlib.Omega.{arith}
 use borrow.Author.Needs.{needs}
 use lib.ListN.{set}
-use Rattle.region.specs.Slots.{slotCount}
+use Rattle.words.specs.Slots.{slotCount}
 use Rattle.region.specs.Parts.{slotAt}
-use Rattle.region.proofs.WordsLaws.{filled, none-filled, fill, all-filled}
+use Rattle.words.proofs.WordsLaws.{filled, none-filled, fill, all-filled}
 use Rattle.region.proofs.slots_of.Statement.{statement}
 use Rattle.region.proofs.slots_of.Tie as tie
 

@@ -11,12 +11,12 @@ use Rattle.plan.specs.Faults.{verdictOf}
 use Rattle.own.specs.Own.{packed}
 use Rattle.accepted.proofs.AcceptedLaws.{accepted-all}
 use Rattle.own.proofs.OwnLaws.{owned-accepted, owned-verdict}
-use Rattle.region.specs.declared.Pair.{Pair}
-use Rattle.region.specs.Slots.{slotCount}
-use Rattle.region.specs.Words.{upTo, noWords}
+use Rattle.words.specs.declared.Pair.{Pair}
+use Rattle.words.specs.Slots.{slotCount}
+use Rattle.words.specs.Words.{upTo, noWords}
 use Rattle.region.specs.Parts.{slotAt}
-use Rattle.region.proofs.WordsLaws.{slots-of-packed, words-refused, words-unknown, words-found}
-use Rattle.region.proofs.Rows.{even-sizes}
+use Rattle.words.proofs.WordsLaws.{words-refused, words-unknown, words-found}
+use Rattle.region.proofs.PartsLaws.{slots-of-packed, even-sizes}
 use Rattle.region.proofs.words_of.Statement.{statement}
 use Rattle.region.proofs.words_of.Tie as tie
 

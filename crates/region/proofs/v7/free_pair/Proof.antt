@@ -2,7 +2,7 @@
 -- Assumes nothing.
 use mathlib.Core.Path.{refl}
 use borrow.Author.Needs.{needs}
-use Rattle.region.specs.Words.{freePair}
+use Rattle.words.specs.Words.{freePair}
 use Rattle.region.proofs.v7.free_pair.Statement.{statement}
 use Rattle.region.proofs.v7.free_pair.Tie as tie
 

@@ -5,9 +5,9 @@ use Prim.Native.Nat.{_+_, _-_, _*_, _^_, _≤_}
 use native.Mathlib.Omega.{arith}
 use borrow.Author.Needs.{needs}
 use lib.Count.{trailingZeros, trailing-le}
-use Rattle.region.specs.Manual.{rbarWord, rasrWord}
-use Rattle.region.specs.Words.{sizeField, rowRbar, rowRasr, rowPair}
-use Rattle.region.proofs.WordsLaws.{ap-at-most, xn-at-most}
+use Rattle.words.specs.Manual.{rbarWord, rasrWord}
+use Rattle.words.specs.Words.{sizeField, rowRbar, rowRasr, rowPair}
+use Rattle.words.proofs.WordsLaws.{ap-at-most, xn-at-most}
 use Rattle.region.proofs.v7.row_pair.Statement.{statement}
 use Rattle.region.proofs.v7.row_pair.Tie as tie
 

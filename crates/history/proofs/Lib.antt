@@ -1,0 +1,7 @@
+pub mod Answers
+pub mod Cases
+pub mod EqualLaws
+pub mod Exact
+pub mod HistoryLaws
+pub mod Preserved
+pub mod Reach

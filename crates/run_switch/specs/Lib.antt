@@ -1,0 +1,2 @@
+pub mod RunSwitch
+pub mod Seam

@@ -1,0 +1,4 @@
+pub mod Manual
+pub mod Slots
+pub mod Unit
+pub mod Words
