@@ -1,6 +1,7 @@
 -- Demand 3 of the mission, sentence by sentence: "For any accepted plan and any finite sequence of ticks and statuses from a cold start ...". The
 -- sentences are about any machine over a plan, told by its answers (`history`, crate `history`, specs/History.antt), so that they can be
--- held against a wrong one too (specs/BadVersions.antt). Calls, phases and verdicts are document 01's numbers (crates `protocol` and `refusal`).
+-- held against a wrong one too (crate `cases`, specs/BadVersions.antt). Calls, phases and verdicts are document 01's numbers (crates `protocol` and
+-- `refusal`).
 use mathlib.Core.Bool.{true}
 use mathlib.Core.List.{List, [], _∷_, _++_}
 use mathlib.Core.Logic.{_⊎_}
