@@ -20,15 +20,13 @@ use Rattle.plan.specs.Plan.{Plan, planOf, frameLength}
 use Rattle.plan.specs.Faults.{wrongCounts, wrong, pastCounts, order, verdictOf}
 use Rattle.lookup.specs.declared.Located.{Located}
 use Rattle.protocol.specs.declared.PhaseWords.{PhaseWords}
-use Rattle.protocol.specs.Numbers.{phaseWords}
-use Rattle.state.specs.declared.State.{State}
 use Rattle.guard.specs.Guard.{placedAt, fitsAt, stateVerdict, guardOf}
 use Rattle.state.specs.Start.{coldMove, ifAccepted, coldOf}
 use Rattle.switch.specs.Step.{tickTaken, tickAt, tickIn, tickMove, zeroAt, replyAt, statusAt, statusIn, statusMove}
 use Rattle.switch.specs.Machine.{tickOf, statusVerdict, statusOf}
 use Rattle.history.specs.Reached.{Event, tick, status}
-use Rattle.history.specs.History.{Entry, called, answered, History, history}
-use Rattle.demands.specs.Machine.{CheckAccepts, Fault, FirstFault, Sentences}
+use Rattle.history.specs.History.{Entry, called, answered, history}
+use Rattle.demands.specs.Machine.{CheckAccepts, phaseNumber, Fault, FirstFault, Sentences}
 use Rattle.demands.specs.Refusals.{RightVerdict, RightWindow}
 use Rattle.cases.specs.Cases.{four, frameA}
 use Rattle.cases.specs.BadVersions.{refusesEvery, saysZero, neverMoves, stopsAtOnce, asksAtOnce, startsRunning, runsOn, BadVersions, OneAnswer}
@@ -49,11 +47,13 @@ lookup-says-0 right =
     let there = right (frameA []) 10 .else-found (table .a-is-accepted) (omega arith) .1 in
     omega (arith, there .holds .not-ended)
 
-phase : {s t : State} → s ≡ t → phaseWords (s .phase) .phase ≡ phaseWords (t .phase) .phase
-phase e = ap (λ (s : State). phaseWords (s .phase) .phase) e
+phase : {v w : PhaseWords} → v ≡ w → v .phase ≡ w .phase
+phase e = ap (λ (w : PhaseWords). w .phase) e
 
 never-moves : (p : Plan) → Sentences p (neverMoves p) → ⊥
-never-moves p holds = omega (arith, sym (phase (holds .begins .state)) ∙ holds .two-zeros)
+never-moves p holds =
+    let stays : phaseNumber (history (neverMoves p) []) ≡ phaseNumber (history (neverMoves p) (status 0 ∷ status 0 ∷ [])) = refl in
+    omega (arith, stays, phase (holds .begins .phase), holds .two-zeros)
 
 stops-at-once : (p : Plan) → Sentences p (stopsAtOnce p) → ⊥
 stops-at-once p holds = omega (arith, holds .two-zeros)
@@ -68,7 +68,7 @@ latest (called call ∷ entries) = call .number
 latest (answered word ∷ entries) = 0
 
 starts-running : (p : Plan) → Sentences p (startsRunning p) → ⊥
-starts-running p holds = omega (arith, phase (holds .begins .state))
+starts-running p holds = omega (arith, phase (holds .begins .phase))
 
 -- two zeros and then a tick that is not due: it is the first fault, since no zero is one
 abbrev zeros : List Event
@@ -111,7 +111,7 @@ unfolding oneTick refuseIf orElse refused firstFault upward testAt firstOf nextW
 over-one-tick = (
   refl,
   λ holds. omega (arith, ap latest (holds .right-tick (status 0 ∷ status 0 ∷ []) (holds .two-zeros) .last refl)),
-  λ holds. omega (arith, ap (λ (w : PhaseWords). w .phase) (holds .stops _ .at-the-first late .phase)),
+  λ holds. omega (arith, phase (holds .stops _ .at-the-first late .phase)),
 )
 
 pub bad-versions : BadVersions

@@ -7,7 +7,7 @@ use lib.Count.{ones, trailingZeros}
 use lib.ListN.{getD}
 use Rattle.refusal.specs.First.{refuseIf, orElse, refused, firstFault, upward, testAt, firstOf}
 use Rattle.timeline.specs.Windows.{holdsb, windowAt}
-use Rattle.timeline.specs.Lookup.{lookupVerdict, answeredWindow}
+use Rattle.timeline.specs.Lookup.{lookupVerdict}
 use Rattle.rows.specs.Rows.{rowsOf}
 use Rattle.rows.specs.Tests.{wrongRowCount, sharesAddress, clashes, clashTest, clashesBefore}
 use Rattle.major_frame.specs.Frame.{windowFault, windowTest, lengthTest, frameVerdict, currentWindow}
@@ -21,7 +21,7 @@ use Rattle.words.specs.Words.{noPair, rowPair, freePair, upTo, wordsVerdict, an
 use Rattle.cases.specs.Cases.{four, frameA, threeRows, Table, lastByte, LastByteWritten}
 
 pub table : Table
-unfolding refuseIf orElse refused firstFault upward testAt firstOf holdsb windowAt lookupVerdict answeredWindow rowsOf wrongRowCount sharesAddress clashes clashTest clashesBefore wrongCounts wrong pastCounts order verdictOf lookupOf windowFault windowTest lengthTest frameVerdict currentWindow made newOf four frameA threeRows ones trailingZeros rowPair freePair atSlot upTo wordsVerdict answer wordsOf
+unfolding refuseIf orElse refused firstFault upward testAt firstOf holdsb windowAt lookupVerdict rowsOf wrongRowCount sharesAddress clashes clashTest clashesBefore wrongCounts wrong pastCounts order verdictOf lookupOf windowFault windowTest lengthTest frameVerdict currentWindow made newOf four frameA threeRows ones trailingZeros rowPair freePair atSlot upTo wordsVerdict answer wordsOf
 table =
     record {
       a-is-accepted = refl;

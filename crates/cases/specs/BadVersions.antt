@@ -20,7 +20,6 @@ use Rattle.state.specs.declared.Answer.{Answer}
 use Rattle.state.specs.State.{zeros}
 use Rattle.state.specs.Answer.{quiet, stop}
 use Rattle.state.specs.Start.{coldOf}
-use Rattle.switch.specs.Machine.{tickOf, statusOf}
 use Rattle.history.specs.Reached.{Event, tick, status}
 use Rattle.history.specs.History.{Machine, answerOf}
 use Rattle.demands.specs.Machine.{CheckAccepts, Sentences}
@@ -61,8 +60,8 @@ abbrev pub startsRunning : Plan → Machine
 startsRunning p = record { start = quiet zeros; answer = answerOf p }
 
 abbrev pub answerLate : Plan → State → Event → Answer
-answerLate p s (tick t) = tickOf p s (s .due)
-answerLate p s (status word) = statusOf p s word
+answerLate p s (tick t) = answerOf p s (tick (s .due))
+answerLate p s (status word) = answerOf p s (status word)
 
 abbrev pub runsOn : Plan → Machine
 runsOn p = record { start = coldOf p; answer = answerLate p }

@@ -472,9 +472,14 @@ module _ (p : Plan) (a : plan.AcceptedIf p) where
   pub begins : Begins p (machineOf p)
   unfolding coldMove
   begins =
+      let state = ap (λ (x : History). x .state) (start-is p a) in
       record {
         verdict = ap (λ (x : Answer). outcome (x .verdict)) (cold-accepted p (all-accepted p a));
-        state = ap (λ (x : History). x .state) (start-is p a);
+        phase = ap (λ (s : State). phaseWords (s .phase)) state;
+        current = ap (λ (s : State). s .current .0) state;
+        target = ap (λ (s : State). s .target .0) state;
+        due = ap (λ (s : State). s .due) state;
+        mark = ap (λ (s : State). s .swapped) state;
         none-taken = ap (λ (x : History). x .taken) (start-is p a);
         asks = ap (λ (x : History). x .entries) (start-is p a);
       }

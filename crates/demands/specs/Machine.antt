@@ -2,7 +2,7 @@
 -- sentences are about any machine over a plan, told by its answers (`history`, crate `history`, specs/History.antt), so that they can be
 -- held against a wrong one too (crate `cases`, specs/BadVersions.antt). Calls, phases and verdicts are document 01's numbers (crates `protocol` and
 -- `refusal`).
-use mathlib.Core.Bool.{true}
+use mathlib.Core.Bool.{true, false}
 use mathlib.Core.List.{List, [], _∷_, _++_}
 use mathlib.Core.Logic.{_⊎_}
 use mathlib.Core.Path.{_≡_}
@@ -18,7 +18,7 @@ use Rattle.words.specs.Words.{slotsUnder}
 use Rattle.protocol.specs.Numbers.{noCall, saveFor, swapFor, resumeFor, callWords, phaseOf, phaseWords}
 use Rattle.state.specs.declared.State.{State}
 use Rattle.state.specs.declared.Answer.{Answer}
-use Rattle.state.specs.State.{cold, inPhase}
+use Rattle.state.specs.State.{inPhase}
 use Rattle.history.specs.Reached.{Event, tick, status, wordOf}
 use Rattle.history.specs.History.{Machine, machineOf, Entry, called, answered, History, next, since, history, openCall}
 
@@ -97,7 +97,11 @@ pub record StaysStopped (m : Machine) (events : List Event) : Type 0 where
 -- "Cold start: ProgramRegions, current 0, target 0, due 0, mark false; asks swap(owner of 0)"
 pub record Begins (p : Plan) (m : Machine) : Type 0 where
   pub verdict : outcome (m .start .verdict) ≡ (0, 0)
-  pub state : history m [] .state ≡ cold
+  pub phase : phaseWords (history m [] .state .phase) ≡ phaseOf 2 2 0 0
+  pub current : history m [] .state .current .0 ≡ 0
+  pub target : history m [] .state .target .0 ≡ 0
+  pub due : history m [] .state .due ≡ 0
+  pub mark : history m [] .state .swapped ≡ false
   pub none-taken : history m [] .taken ≡ 0
   pub asks : history m [] .entries ≡ called (swapFor (ownerOf p 0)) ∷ []
 

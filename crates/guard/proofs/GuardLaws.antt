@@ -1,10 +1,9 @@
 -- What the guard says, by its tests.
 -- Assumes nothing.
 use mathlib.Core.Bool.{true, false, true≢false}
-use mathlib.Core.Path.{_≡_, refl, ap, _∙_}
+use mathlib.Core.Path.{_≡_, refl, _∙_}
 use Rattle.refusal.specs.declared.Refusal.{Refusal}
 use Rattle.refusal.specs.declared.Refusal.the-variants.{MachineStopped, StrangeState}
-use Rattle.refusal.specs.declared.Verdict.{Verdict}
 use Rattle.refusal.specs.declared.Verdict.the-variants.{Accepted, Refused}
 use Rattle.refusal.specs.First.{refuseIf, orElse}
 use Rattle.refusal.proofs.First.{refuses-if, both-accept}
@@ -14,14 +13,7 @@ use Rattle.protocol.specs.declared.Phase.{Phase}
 use Rattle.protocol.specs.declared.Phase.the-variants.{At, Stopped}
 use Rattle.protocol.specs.Phase.{isStopped, stageOf}
 use Rattle.state.specs.declared.State.{State}
-use Rattle.guard.specs.Guard.{fits, stateVerdict, guardOf, countIf}
-
-module _ (p : Plan) where
-  pub count-refused : (r : Refusal) → verdictOf p ≡ Refused r → countIf (verdictOf p) (windowCount p) ≡ 0
-  count-refused r e = ap (λ (v : Verdict). countIf v (windowCount p)) e
-
-  pub count-accepted : verdictOf p ≡ Accepted → countIf (verdictOf p) (windowCount p) ≡ windowCount p
-  count-accepted e = ap (λ (v : Verdict). countIf v (windowCount p)) e
+use Rattle.guard.specs.Guard.{fits, stateVerdict, guardOf}
 
 module _ (p : Plan) (s : State) where
   pub guard-plan : (r : Refusal) → verdictOf p ≡ Refused r → guardOf p s ≡ Refused r

@@ -6,8 +6,7 @@ use Prim.Native.Nat.{ℕ}
 use lib.Dec.{eqb, leb, ltb}
 use Rattle.refusal.specs.declared.Refusal.the-variants.{MachineStopped, StrangeState}
 use Rattle.refusal.specs.declared.Verdict.{Verdict}
-use Rattle.refusal.specs.declared.Verdict.the-variants.{Accepted, Refused}
-use Rattle.refusal.specs.First.{refuseIf, orElse}
+use Rattle.refusal.specs.First.{refuseIf, orElse, unlessRefused}
 use Rattle.timeline.specs.Windows.{nextWindow}
 use Rattle.records.specs.declared.Window.{Window}
 use Rattle.plan.specs.Plan.{Plan, windowCount}
@@ -66,11 +65,6 @@ stateVerdict fits phase = orElse (refuseIf (not fits) StrangeState) (refuseIf (i
 unfoldable pub guardOf : Plan → State → Verdict
 guardOf p s = orElse (verdictOf p) (stateVerdict (fits (windowCount p) (p .windows) s) (s .phase))
 
--- the windows of an accepted plan
-abbrev pub countIf : Verdict → ℕ → ℕ
-countIf Accepted count = count
-countIf (Refused r) count = 0
-
--- with what the step goes by
+-- with what the step goes by: the stage, and how many windows an accepted plan has
 abbrev pub guarded : Plan → State → Guarded
-guarded p s = record { stage = stageOf (s .phase); count = countIf (verdictOf p) (windowCount p); verdict = guardOf p s }
+guarded p s = record { stage = stageOf (s .phase); count = unlessRefused (verdictOf p) (windowCount p) 0; verdict = guardOf p s }

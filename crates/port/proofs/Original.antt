@@ -1,7 +1,7 @@
 -- Every promise of the original follows from our contracts' definitions: each theorem takes the original's `requires` and
 -- gives the record of its `ensures`, beside what document 01 fixes of the mark.
 -- Assumes nothing.
-use mathlib.Core.Bool.{Bool, true, false}
+use mathlib.Core.Bool.{Bool, true, false, true≢false}
 use mathlib.Core.Logic.{_↔_}
 use mathlib.Core.Path.{_≡_, refl, sym, ap, _∙_}
 use Prim.Native.Nat.{ℕ, _+_, _<_}
@@ -23,7 +23,7 @@ use Rattle.switcher.specs.Switch.{Inv, inPhase, stateVerdict, atBoundary, moved
 use Rattle.run_switch.specs.RunSwitch.{runSwitchOf}
 use Rattle.switcher.proofs.SwitchLaws.{in-phase, inv-accepted, new-started, boundary-says, step-cases}
 use Rattle.run_switch.proofs.RunSwitchLaws.{one-call, two-calls, three-calls, switch-due, run-switches}
-use Rattle.port.specs.Original.{Accepts, Check, CurrentWindow, New, Tick, MarkSaved, MarkSwapped, MarkResumed, RunSwitch, SwitchCalls}
+use Rattle.port.specs.Original.{Accepts, Check, CurrentWindow, New, Tick, MarkSaved, MarkSwapped, MarkResumed, RunSwitch, SwitchCalls, OriginalClauses, LeftOpen}
 
 pub check : (f : MajorFrame) → Check f (frameVerdict f)
 check f = record { answers = (λ e. frame-accepted-inv f (same-outcome (frameVerdict f) Accepted e), λ h. ap outcome (frame-inv-accepted f h)) }
@@ -68,15 +68,12 @@ new f h =
       refl,
     )
 
-never : true ≡ false → ⊥
-never e = let z : _≡_ {A = ℕ} 0 1 = cc in omega arith
-
 -- a test that is false refutes what it tests
 refuted : {A : Type 0} {due : Bool} → (due ≡ true) ↔ A → due ≡ false → A → ⊥
-refuted test e q = never (sym (test .1 q) ∙ e)
+refuted test e q = true≢false (sym (test .1 q) ∙ e)
 
 not-done : {A : Type 0} → (A → ⊥) → (false ≡ true) ↔ A
-not-done no-way = (λ q. absurd (never (sym q)), λ q. absurd (no-way q))
+not-done no-way = (λ q. absurd (true≢false (sym q)), λ q. absurd (no-way q))
 
 -- each maker keeps `inv`
 moved-inv : (s : Switcher) (p : SwPhase) (m : Bool) (w : ℕ) → Inv s → w < 4 → (p ≡ Resume → m ≡ true) → (p ≡ SaveCtx → m ≡ false)
@@ -291,3 +288,28 @@ module _ (s : Switcher) (h : Inv s) where
 
 pub lemma-resume-implies-region-swap : (s : Switcher) → Inv s → s .phase ≡ Resume → s .swapped ≡ true
 lemma-resume-implies-region-swap s h p = h .resume-is-swapped p
+
+pub original-clauses : OriginalClauses
+original-clauses =
+    record {
+      check = check;
+      current-window = current-window;
+      new = λ f h. new f h .0;
+      tick = tick;
+      mark-saved = mark-saved;
+      mark-swapped = mark-swapped;
+      mark-resumed = λ s h. mark-resumed s h .0;
+      run-switch = λ s h p save swap resume. run-switch s h save swap resume p .0;
+      window-disjoint = lemma-window-disjoint;
+      no-skip = lemma-no-skip;
+      resume-implies-region-swap = lemma-resume-implies-region-swap;
+    }
+
+pub left-open : LeftOpen
+left-open =
+    record {
+      new-mark = λ f h. new f h .1;
+      resumed-mark = λ s h. mark-resumed s h .1;
+      switched-mark = λ s h p save swap resume. run-switch s h save swap resume p .1;
+      calls = λ s h p save swap resume. switch-calls s h save swap resume p;
+    }

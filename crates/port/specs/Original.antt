@@ -1,25 +1,25 @@
 -- The promises of the original, src/partition_switch.rs: one record for each function and one field for each clause, in the
--- order of the source. `requires` stands before them in the theorems of proofs/Original.antt, and under it the port accepts
--- (outcome 0 at 0); docs/CONTRACTS.md has a row a clause.
+-- order of the source. In `OriginalClauses` each stands behind what the source requires, under which the port accepts (outcome 0 at 0).
+-- docs/CONTRACTS.md has a row a clause.
 use mathlib.Core.Bool.{true, false}
 use mathlib.Core.List.{[], _∷_}
 use mathlib.Core.Logic.{_↔_}
 use mathlib.Core.Path.{_≡_}
-use Prim.Native.Nat.{ℕ, _<_}
+use Prim.Native.Nat.{ℕ, _+_, _<_}
 use Rattle.refusal.specs.declared.Verdict.{Verdict}
 use Rattle.refusal.specs.Table.{outcome}
-use Rattle.timeline.specs.Windows.{nextWindow}
+use Rattle.timeline.specs.Windows.{nextWindow, nextTick}
 use Rattle.major_frame.specs.declared.MajorFrame.{MajorFrame}
 use Rattle.major_frame.specs.declared.Located.{Located}
-use Rattle.major_frame.specs.Frame.{FrameInv, InWindow}
+use Rattle.major_frame.specs.Frame.{FrameInv, InWindow, winEnd, frameVerdict, currentWindow}
 use Rattle.switcher.specs.declared.SwPhase.the-variants.{Running, SaveCtx, ProgramRegions, Resume}
 use Rattle.switcher.specs.declared.Switcher.{Switcher}
 use Rattle.switcher.specs.declared.Made.{Made}
 use Rattle.switcher.specs.declared.Stepped.{Stepped}
 use Rattle.run_switch.specs.declared.Switched.{Switched}
 use Rattle.run_switch.specs.Seam.{callsWords}
-use Rattle.switcher.specs.Switch.{Inv, Boundary, saved, swappedIn, resumed}
-use Rattle.run_switch.specs.RunSwitch.{outgoingOf, incomingOf}
+use Rattle.switcher.specs.Switch.{Inv, Boundary, saved, swappedIn, resumed, newOf, tickOf, markSavedOf, markSwappedOf, markResumedOf}
+use Rattle.run_switch.specs.RunSwitch.{outgoingOf, incomingOf, runSwitchOf}
 
 abbrev pub Accepts : Verdict → Type 0
 Accepts v = outcome v ≡ (0, 0)
@@ -101,3 +101,28 @@ pub record SwitchCalls (s : Switcher) (save swap resume : ℕ) (r : Switched) : 
   pub none-failed : save ≡ 0 → swap ≡ 0 → resume ≡ 0
       → (r .state ≡ resumed (swappedIn (saved s)))
       × (callsWords (r .calls) ≡ 1 ∷ outgoingOf s ∷ 2 ∷ incomingOf s ∷ 3 ∷ incomingOf s ∷ [])
+
+-- each function under what the source requires, and its three lemmas
+pub record OriginalClauses : Type 0 where
+  pub check : (f : MajorFrame) → Check f (frameVerdict f)
+  pub current-window : (f : MajorFrame) → FrameInv f → (t : ℕ) → t < f .«frame_len» → CurrentWindow f t (currentWindow f t)
+  pub new : (f : MajorFrame) → FrameInv f → New f (newOf f)
+  pub tick : (s : Switcher) → Inv s → (t : ℕ) → Tick s t (tickOf s t)
+  pub mark-saved : (s : Switcher) → Inv s → MarkSaved s (markSavedOf s)
+  pub mark-swapped : (s : Switcher) → Inv s → MarkSwapped s (markSwappedOf s)
+  pub mark-resumed : (s : Switcher) → Inv s → MarkResumed s (markResumedOf s)
+  pub run-switch : (s : Switcher) → Inv s → s .phase ≡ SaveCtx → (save swap resume : ℕ)
+      → RunSwitch s save swap resume (runSwitchOf s save swap resume)
+  pub window-disjoint : (f : MajorFrame) → FrameInv f → (i j t : ℕ) → i < 4 → j < 4 → (i ≡ j → ⊥) → InWindow f i t → InWindow f j t → ⊥
+  pub no-skip : (f : MajorFrame) → FrameInv f → (cur t : ℕ) → cur < 4 → InWindow f cur t → t + 1 ≡ winEnd f cur
+      → InWindow f (nextWindow 4 cur) (nextTick (f .«frame_len») t)
+  pub resume-implies-region-swap : (s : Switcher) → Inv s → s .phase ≡ Resume → s .swapped ≡ true
+
+-- what the source leaves open and document 01 fixes: the mark, and the calls of a switch
+pub record LeftOpen : Type 0 where
+  pub new-mark : (f : MajorFrame) → FrameInv f → newOf f .state .swapped ≡ false
+  pub resumed-mark : (s : Switcher) → Inv s → s .phase ≡ Resume → markResumedOf s .state .swapped ≡ true
+  pub switched-mark : (s : Switcher) → Inv s → s .phase ≡ SaveCtx → (save swap resume : ℕ) → save ≡ 0 → swap ≡ 0 → resume ≡ 0
+      → runSwitchOf s save swap resume .state .swapped ≡ true
+  pub calls : (s : Switcher) → Inv s → s .phase ≡ SaveCtx → (save swap resume : ℕ)
+      → SwitchCalls s save swap resume (runSwitchOf s save swap resume)

@@ -16,10 +16,16 @@ use Rattle.refusal.specs.declared.Refusal.{Refusal}
 use Rattle.refusal.specs.declared.Refusal.the-variants.{Counts}
 use Rattle.refusal.specs.declared.Verdict.{Verdict}
 use Rattle.refusal.specs.declared.Verdict.the-variants.{Accepted, Refused}
-use Rattle.refusal.specs.First.{refuseIf, orElse, refused, firstFault, FirstAt, upward, testAt, firstOf, FirstIn}
+use Rattle.refusal.specs.First.{refuseIf, orElse, unlessRefused, refused, firstFault, FirstAt, upward, testAt, firstOf, FirstIn}
 
 pub never-both : {r : Refusal} → Accepted ≡ Refused r → ⊥
 never-both e = let z : _≡_ {A = ℕ} 0 1 = cc in omega arith
+
+pub answers : {A : Type 0} {v : Verdict} (to else : A) → v ≡ Accepted → unlessRefused v to else ≡ to
+answers to else e = ap (λ (v : Verdict). unlessRefused v to else) e
+
+pub answers-else : {A : Type 0} {v : Verdict} (to else : A) (r : Refusal) → v ≡ Refused r → unlessRefused v to else ≡ else
+answers-else to else r e = ap (λ (v : Verdict). unlessRefused v to else) e
 
 -- one test
 pub refuses-if : (fault : Bool) (r : Refusal) → (refuseIf fault r ≡ Accepted) ↔ (fault ≡ false)

@@ -18,6 +18,11 @@ unfoldable pub orElse : Verdict → Verdict → Verdict
 orElse Accepted v = v
 orElse (Refused r) v = Refused r
 
+-- what is answered where it accepts, and what where it refuses
+abbrev pub unlessRefused : {A : Type 0} → Verdict → (to else : A) → A
+unlessRefused Accepted to else = to
+unlessRefused (Refused r) to else = else
+
 -- whether it refuses
 unfoldable pub refused : Verdict → Bool
 refused Accepted = false

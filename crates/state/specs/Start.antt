@@ -3,7 +3,7 @@
 use mathlib.Core.List.{List}
 use Prim.Native.Nat.{ℕ}
 use Rattle.refusal.specs.declared.Verdict.{Verdict}
-use Rattle.refusal.specs.declared.Verdict.the-variants.{Accepted, Refused}
+use Rattle.refusal.specs.First.{unlessRefused}
 use Rattle.plan.specs.Plan.{Plan}
 use Rattle.plan.specs.Faults.{verdictOf}
 use Rattle.protocol.specs.declared.Call.the-variants.{SwapFor}
@@ -14,8 +14,7 @@ use Rattle.state.specs.Answer.{owner, moved, refusedAnswer}
 
 -- the answer `to`, if nothing is wrong
 unfoldable pub ifAccepted : Verdict → State → Answer → Answer
-ifAccepted Accepted s to = to
-ifAccepted (Refused r) s to = refusedAnswer s (Refused r)
+ifAccepted verdict s to = unlessRefused verdict to (refusedAnswer s verdict)
 
 -- "Cold start: ... asks swap(owner of 0)"
 unfoldable pub coldMove : List ℕ → Answer

@@ -10,20 +10,20 @@ use Rattle.refusal.specs.declared.Verdict.{Verdict}
 use Rattle.refusal.specs.declared.Verdict.the-variants.{Accepted, Refused}
 use Rattle.refusal.specs.First.{refuseIf, orElse}
 use Rattle.refusal.proofs.First.{both-accept, refuses-if}
-use Rattle.timeline.specs.Lookup.{lookupVerdict, answeredWindow, lookedUp}
+use Rattle.timeline.specs.Lookup.{lookupVerdict, lookedUp}
 
 module _ {A : Type 0} (answer : ℕ → Verdict → A) (frame : Verdict) (frameLength t window : ℕ) where
   pub refused : (r : Refusal) → frame ≡ Refused r → lookedUp answer (lookupVerdict frame frameLength t) window ≡ answer 0 (Refused r)
-  unfolding lookupVerdict answeredWindow orElse
+  unfolding lookupVerdict orElse
   refused r e = rw e
 
   pub past : frame ≡ Accepted → frameLength ≤ t
       → lookedUp answer (lookupVerdict frame frameLength t) window ≡ answer 0 (Refused TickPastFrame)
-  unfolding lookupVerdict answeredWindow orElse refuseIf
+  unfolding lookupVerdict orElse refuseIf
   past e h = rw (e, le-leb frameLength t h)
 
   pub found : frame ≡ Accepted → t < frameLength → lookedUp answer (lookupVerdict frame frameLength t) window ≡ answer window Accepted
-  unfolding lookupVerdict answeredWindow orElse refuseIf
+  unfolding lookupVerdict orElse refuseIf
   found e h = rw (e, lt-leb frameLength t h)
 
 -- it accepts exactly if the frame is accepted and the tick is in it

@@ -4,16 +4,11 @@ use Prim.Native.Nat.{ℕ}
 use lib.Dec.{leb}
 use Rattle.refusal.specs.declared.Refusal.the-variants.{TickPastFrame}
 use Rattle.refusal.specs.declared.Verdict.{Verdict}
-use Rattle.refusal.specs.declared.Verdict.the-variants.{Accepted, Refused}
-use Rattle.refusal.specs.First.{refuseIf, orElse}
+use Rattle.refusal.specs.First.{refuseIf, orElse, unlessRefused}
 
 unfoldable pub lookupVerdict : Verdict → (frameLength t : ℕ) → Verdict
 lookupVerdict frame frameLength t = orElse frame (refuseIf (leb frameLength t) TickPastFrame)
 
-unfoldable pub answeredWindow : Verdict → ℕ → ℕ
-answeredWindow Accepted window = window
-answeredWindow (Refused r) window = 0
-
--- the two together, in the record that a frame's lookup answers
+-- with the window, in the record that a frame's lookup answers
 abbrev pub lookedUp : {A : Type 0} → (ℕ → Verdict → A) → Verdict → ℕ → A
-lookedUp answer lookup window = answer (answeredWindow lookup window) lookup
+lookedUp answer lookup window = answer (unlessRefused lookup window 0) lookup

@@ -3,11 +3,12 @@
 use borrow.Author.Needs.{needs}
 use mathlib.Core.Path.{_≡_, sym, _∙_}
 use Rattle.refusal.specs.declared.Verdict.the-variants.{Accepted}
-use Rattle.plan.specs.Plan.{Plan, planOf}
+use Rattle.plan.specs.Plan.{Plan, planOf, windowCount}
 use Rattle.plan.specs.Faults.{verdictOf}
 use Rattle.accepted.proofs.AcceptedLaws.{accepted-all}
+use Rattle.refusal.proofs.First.{answers, answers-else}
 use Rattle.guard.specs.Guard.{fitsAt, stateVerdict}
-use Rattle.guard.proofs.GuardLaws.{count-refused, count-accepted, guard-plan, guard-state}
+use Rattle.guard.proofs.GuardLaws.{guard-plan, guard-state}
 use Rattle.guard.proofs.guard.Statement.{statement}
 use Rattle.guard.proofs.guard.Tie as tie
 
@@ -35,7 +36,7 @@ returns c =
     let told = c .enum-told2 .given in
     let refused = sym (c .before .before .check .ensures) ∙ told .1 in
     let verdict = told .1 ∙ sym (guard-plan (plan start) (start .args .state) (told .0 .0) refused) in
-    let none = sym (count-refused (plan start) (told .0 .0) refused) in
+    let none = sym (answers-else (windowCount (plan start)) 0 (told .0 .0) refused) in
     λ k. record { stage = c .before .before .before .stage .ensures k; count = none k; verdict = verdict k }
 
 window-count-requires : tie.Need-window-count-requires
@@ -56,7 +57,7 @@ returns-2 c =
     let verdict =
     c .let-in .ensures ∙ (λ k. stateVerdict (fitsAt (count k) (at .windows .now) (at .state) (stage k)) (at .state .phase))
     ∙ sym (guard-state (plan start) (at .state) ok) in
-    let counted = count ∙ sym (count-accepted (plan start) ok) in
+    let counted = count ∙ sym (answers (windowCount (plan start)) 0 ok) in
     λ k. record { stage = stage k; count = counted k; verdict = verdict k }
 
 pub guard-spec : {M : Type 1} → statement M

@@ -3,12 +3,13 @@
 use borrow.Author.Needs.{needs}
 use mathlib.Core.Path.{_≡_, sym, ap, _∙_}
 use Rattle.refusal.specs.declared.Verdict.the-variants.{Accepted}
+use Rattle.refusal.proofs.First.{answers}
 use Rattle.plan.specs.Plan.{Plan, planOf}
 use Rattle.guard.specs.declared.Guarded.{Guarded}
 use Rattle.state.specs.Answer.{refusedAnswer}
 use Rattle.switch.specs.Step.{timetable, tickAt}
 use Rattle.guard.specs.Guard.{guardOf}
-use Rattle.guard.proofs.GuardLaws.{count-accepted, plan-accepted}
+use Rattle.guard.proofs.GuardLaws.{plan-accepted}
 use Rattle.switch.proofs.MachineLaws.{tick-refused, tick-let-in}
 use Rattle.switch.proofs.tick.Statement.{statement}
 use Rattle.switch.proofs.tick.Tie as tie
@@ -46,7 +47,7 @@ returns-2 c =
     let at = c .before .before .before .before .before .before .args in
     let guarded = c .before .before .before .guard .ensures in
     let stage = ap (λ (g : Guarded). g .stage) guarded in
-    let count = ap (λ (g : Guarded). g .count) guarded ∙ count-accepted _ (plan-accepted _ _ (let-in (c .before))) in
+    let count = ap (λ (g : Guarded). g .count) guarded ∙ answers _ 0 (plan-accepted _ _ (let-in (c .before))) in
     c .tick-at .ensures
     ∙ (λ k. tickAt (timetable (at .frame .length) (count k) (at .windows .now)) (at .state) (stage k) (at .t))
     ∙ sym (tick-let-in _ _ _ (let-in (c .before)))
