@@ -1,75 +1,149 @@
-//! Times the proved check, lookup and region words against the ordinary Rust of ordinary.rs, on one plan, turn by turn in one run. Each figure is
-//! the median of the rounds; the ratio is the proved one's time over the ordinary one's, round by round.
+//! Times the proved library against the ordinary Rust of ordinary.rs, turn by turn in one run.
 
-#[path = "../tests/host.rs"]
-mod host;
-#[allow(dead_code)] // each benchmark takes what it compares
 mod ordinary;
+mod proved;
+mod timing;
 
 use std::hint::black_box;
-use std::time::Instant;
+use timing::{compare, contender, Contender};
 
-const ROUNDS: usize = 41;
-
-/// The largest counts: 64 windows of 1000 ticks; 128 writable rows of 1024 bytes, eight a partition, side by side.
-fn plan(row_count: u32) -> (u32, Vec<u32>, Vec<u32>) {
-    let windows = (0..64).flat_map(|i| [i % 16, i * 1000, 1000]).collect();
-    let rows = (0..row_count).flat_map(|i| [i % 16, 0x2000_0000 + i * 1024, 1024, 1]).collect();
-    (64_000, windows, rows)
+/// 64 windows of `budget` ticks.
+fn windows(budget: u32) -> Vec<u32> {
+    (0..64).flat_map(|i| [i % 16, i * budget, budget]).collect()
 }
 
-fn nanoseconds(times: u32, f: &mut dyn FnMut()) -> f64 {
-    let start = Instant::now();
-    for _ in 0..times {
-        f();
+/// Writable rows of 1024 bytes, side by side, of partitions 0 to 15 in turn: row i is the one at place `order[i]`.
+fn rows(order: &[u32]) -> Vec<u32> {
+    order.iter().flat_map(|k| [k % 16, 0x2000_0000 + k * 1024, 1024, 1]).collect()
+}
+
+/// The same shuffle in every run: each place changes with one at or before it, by a small generator.
+fn shuffled(count: u32) -> Vec<u32> {
+    let mut order: Vec<u32> = (0..count).collect();
+    let mut seed = 12345u64;
+    for i in (1..order.len()).rev() {
+        seed = seed.wrapping_mul(6364136223846793005).wrapping_add(1442695040888963407);
+        order.swap(i, (seed >> 33) as usize % (i + 1));
     }
-    start.elapsed().as_nanos() as f64 / f64::from(times)
+    order
 }
 
-fn median(mut figures: Vec<f64>) -> f64 {
-    figures.sort_by(f64::total_cmp);
-    figures[figures.len() / 2]
+/// `batch` calls, one after the other.
+fn repeat<'a, T>(name: &'static str, batch: u32, mut call: impl FnMut() -> T + 'a) -> Contender<'a> {
+    contender(name, move || (0..batch).for_each(|_| _ = black_box(call())))
 }
 
-fn compare(what: &str, times: u32, mut proved: impl FnMut(), mut ordinary: impl FnMut()) {
-    let rounds: Vec<(f64, f64)> = (0..ROUNDS).map(|_| (nanoseconds(times, &mut proved), nanoseconds(times, &mut ordinary))).collect();
-    let ours = median(rounds.iter().map(|r| r.0).collect());
-    let theirs = median(rounds.iter().map(|r| r.1).collect());
-    let ratio = median(rounds.iter().map(|r| r.0 / r.1).collect());
-    println!("{what}: proved {ours:.0} ns, ordinary {theirs:.0} ns, ratio {ratio:.2}");
-}
-
-fn main() {
-    for row_count in [128, 0] {
-        let (length, windows, rows) = plan(row_count);
-        for length in [length, length + 1] {
-            let host::Outcome { number, place } = host::check(length, &windows, &rows);
-            let ordinary::Refused(n, p) = ordinary::check(length, &windows, &rows).err().unwrap_or(ordinary::Refused(0, 0));
-            assert_eq!((number, place), (n, p));
+fn agree(length: u32, windows: &[u32], rows: &[u32]) {
+    for length in [length, length + 1] {
+        let proved = proved::check(length, windows, rows);
+        for other in [ordinary::check::<false>(length, windows, rows), ordinary::check::<true>(length, windows, rows)] {
+            let ordinary::Refused(number, place) = other.err().unwrap_or(ordinary::Refused(0, 0));
+            assert_eq!((proved.number, proved.place), (number, place));
         }
-        let times = if row_count == 0 { 20_000 } else { 500 };
-        compare(
-            &format!("check, 64 windows, {row_count} rows"),
-            times,
-            || _ = black_box(host::check(black_box(length), &windows, &rows)),
-            || _ = black_box(ordinary::check(black_box(length), &windows, &rows)),
-        );
-        let pairs = |partition| host::words(length, &windows, &rows, partition).slots.map(|pair| (pair.first, pair.second));
-        assert_eq!(Some(pairs(3)), ordinary::words(length, &windows, &rows, 3).ok());
-        compare(
-            &format!("region words, 64 windows, {row_count} rows"),
-            times,
-            || _ = black_box(host::words(length, &windows, &rows, black_box(3))),
-            || _ = black_box(ordinary::words(length, &windows, &rows, black_box(3)).ok()),
-        );
-        for (place, t) in [("first", 0), ("last", length - 1)] {
-            assert_eq!(Some(host::lookup(length, &windows, &rows, t).window), ordinary::lookup(length, &windows, &rows, t).ok());
+        #[cfg(before)]
+        assert_eq!(proved, proved::before::check(length, windows, rows));
+    }
+}
+
+/// The check and one tick of a machine, whose events are nearly all ticks, by the order of the rows.
+fn orders() {
+    for count in [8, 32, 128] {
+        let ascending: Vec<u32> = (0..count).collect();
+        let descending: Vec<u32> = (0..count).rev().collect();
+        for (name, order) in [("ascending", ascending), ("descending", descending), ("shuffled", shuffled(count))] {
+            let (length, windows, rows) = (64_000_000, windows(1_000_000), rows(&order));
+            agree(length, &windows, &rows);
+            let batch = 20_000 / count;
+            let (w, r) = (&windows[..], &rows[..]);
             compare(
-                &format!("lookup in the {place} window, 64 windows, {row_count} rows"),
-                times,
-                || _ = black_box(host::lookup(length, &windows, &rows, black_box(t))),
-                || _ = black_box(ordinary::lookup(length, &windows, &rows, black_box(t))),
+                &format!("check, {count} rows {name}"),
+                batch,
+                vec![
+                    repeat("proved", batch, || proved::check(black_box(length), w, r)),
+                    repeat("with the same shortcuts", batch, || ordinary::check::<true>(black_box(length), w, r)),
+                    repeat("ordinary", batch, || ordinary::check::<false>(black_box(length), w, r)),
+                    #[cfg(before)]
+                    repeat("before", batch, || proved::before::check(black_box(length), w, r)),
+                ],
+            );
+            assert_eq!(proved::driven(length, w, r, batch), ordinary::driven::<true>(length, w, r, batch));
+            compare(
+                &format!("tick, {count} rows {name}"),
+                batch,
+                vec![
+                    repeat("proved", 1, || proved::driven(length, w, r, black_box(batch))),
+                    repeat("with the same shortcuts", 1, || ordinary::driven::<true>(length, w, r, black_box(batch))),
+                    repeat("ordinary", 1, || ordinary::driven::<false>(length, w, r, black_box(batch))),
+                    #[cfg(before)]
+                    repeat("before", 1, || proved::before::driven(length, w, r, black_box(batch))),
+                ],
             );
         }
     }
+}
+
+/// Every entry point, at the largest counts and with no rows; ordinary Rust has the same shortcuts.
+fn entry_points() {
+    for count in [128, 0] {
+        let (length, windows, rows) = (64_000, windows(1000), rows(&(0..count).collect::<Vec<u32>>()));
+        let (w, r) = (&windows[..], &rows[..]);
+        let batch = if count == 0 { 20_000 } else { 2_000 };
+        agree(length, w, r);
+        compare(
+            &format!("check, 64 windows, {count} rows"),
+            batch,
+            vec![
+                repeat("proved", batch, || proved::check(black_box(length), w, r)),
+                repeat("ordinary", batch, || ordinary::check::<true>(black_box(length), w, r)),
+            ],
+        );
+        let pairs = proved::words(length, w, r, 3).slots.map(|pair| (pair.first, pair.second));
+        assert_eq!(Some(pairs), ordinary::words(length, w, r, 3).ok());
+        compare(
+            &format!("region words, 64 windows, {count} rows"),
+            batch,
+            vec![
+                repeat("proved", batch, || proved::words(length, w, r, black_box(3))),
+                repeat("ordinary", batch, || ordinary::words(length, w, r, black_box(3)).ok()),
+            ],
+        );
+        for (place, t) in [("first", 0), ("last", length - 1)] {
+            assert_eq!(Some(proved::lookup(length, w, r, t).window), ordinary::lookup(length, w, r, t).ok());
+            compare(
+                &format!("lookup in the {place} window, 64 windows, {count} rows"),
+                batch,
+                vec![
+                    repeat("proved", batch, || proved::lookup(length, w, r, black_box(t))),
+                    repeat("ordinary", batch, || ordinary::lookup(length, w, r, black_box(t))),
+                ],
+            );
+        }
+    }
+}
+
+/// One event, a tick or a status: each open call is answered with zero, each tick is the due one.
+fn events() {
+    let frame_a = vec![0, 0, 10, 1, 10, 20, 0, 30, 5, 2, 35, 15];
+    let all: Vec<u32> = (0..128).collect();
+    for (name, length, windows, rows) in
+        [("frame A", 50, frame_a, rows(&[])), ("64 windows, 0 rows", 640, windows(10), rows(&[])), ("64 windows, 128 rows", 640, windows(10), rows(&all))]
+    {
+        let (w, r) = (&windows[..], &rows[..]);
+        let batch = if r.is_empty() { 100_000 } else { 2_000 };
+        assert_eq!(proved::driven(length, w, r, batch), ordinary::driven::<true>(length, w, r, batch));
+        compare(
+            &format!("an event, {name}"),
+            batch,
+            vec![
+                repeat("proved", 1, || proved::driven(length, w, r, black_box(batch))),
+                repeat("ordinary", 1, || ordinary::driven::<true>(length, w, r, black_box(batch))),
+            ],
+        );
+    }
+}
+
+fn main() {
+    entry_points();
+    events();
+    orders();
 }

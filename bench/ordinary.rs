@@ -1,13 +1,21 @@
-//! The check, the lookup and the region words as one would write them in Rust with nothing to prove: chunks, an early return, a counter a partition.
+//! The check, the lookup, the region words and the machine as one would write them in Rust with nothing to prove: chunks, an early return, a counter
+//! a partition. With `SHORT` a row past all before it is held against none of them, as in the proved code; without, each is held against each.
 
 pub struct Refused(pub u32, pub u32);
+
+/// What the rows before say of the next one.
+struct Before {
+    counts: [u32; 16],
+    lowest: u64,
+    highest: u64,
+}
 
 fn overlap(a: &[u32], b: &[u32]) -> bool {
     let end = |r: &[u32]| u64::from(r[1]) + u64::from(r[2]);
     u64::from(a[1]) < end(b) && u64::from(b[1]) < end(a)
 }
 
-fn row(rows: &[u32], i: usize, counts: &mut [u32; 16]) -> Result<(), Refused> {
+fn row<const SHORT: bool>(rows: &[u32], i: usize, before: &mut Before) -> Result<(), Refused> {
     let r = &rows[i * 4..i * 4 + 4];
     let at = i as u32;
     if r[0] > 15 {
@@ -22,19 +30,24 @@ fn row(rows: &[u32], i: usize, counts: &mut [u32; 16]) -> Result<(), Refused> {
     if r[3] > 2 {
         return Err(Refused(9, at));
     }
-    counts[r[0] as usize] += 1;
-    if counts[r[0] as usize] > 8 {
+    before.counts[r[0] as usize] += 1;
+    if before.counts[r[0] as usize] > 8 {
         return Err(Refused(10, at));
     }
-    for o in rows[..i * 4].chunks_exact(4) {
-        if overlap(o, r) && (o[0] == r[0] || o[3] == 1 || r[3] == 1) {
-            return Err(Refused(11, at));
+    let (base, end) = (u64::from(r[1]), u64::from(r[1]) + u64::from(r[2]));
+    if !SHORT || (base < before.highest && before.lowest < end) {
+        for o in rows[..i * 4].chunks_exact(4) {
+            if overlap(o, r) && (o[0] == r[0] || o[3] == 1 || r[3] == 1) {
+                return Err(Refused(11, at));
+            }
         }
     }
+    before.lowest = before.lowest.min(base);
+    before.highest = before.highest.max(end);
     Ok(())
 }
 
-pub fn check(length: u32, windows: &[u32], rows: &[u32]) -> Result<(), Refused> {
+pub fn check<const SHORT: bool>(length: u32, windows: &[u32], rows: &[u32]) -> Result<(), Refused> {
     let count = windows.len() / 3;
     if windows.len() % 3 != 0 || rows.len() % 4 != 0 || count == 0 || count > 64 || rows.len() / 4 > 128 {
         return Err(Refused(1, 0));
@@ -55,12 +68,12 @@ pub fn check(length: u32, windows: &[u32], rows: &[u32]) -> Result<(), Refused> 
     if end != u64::from(length) {
         return Err(Refused(5, count as u32 - 1));
     }
-    let mut counts = [0; 16];
-    (0..rows.len() / 4).try_for_each(|i| row(rows, i, &mut counts))
+    let mut before = Before { counts: [0; 16], lowest: 1 << 32, highest: 0 };
+    (0..rows.len() / 4).try_for_each(|i| row::<SHORT>(rows, i, &mut before))
 }
 
 pub fn lookup(length: u32, windows: &[u32], rows: &[u32], t: u32) -> Result<u32, Refused> {
-    check(length, windows, rows)?;
+    check::<true>(length, windows, rows)?;
     if t >= length {
         return Err(Refused(12, 0));
     }
@@ -69,7 +82,7 @@ pub fn lookup(length: u32, windows: &[u32], rows: &[u32], t: u32) -> Result<u32,
 }
 
 pub fn words(length: u32, windows: &[u32], rows: &[u32], partition: u32) -> Result<[(u32, u32); 8], Refused> {
-    check(length, windows, rows)?;
+    check::<true>(length, windows, rows)?;
     if partition > 15 {
         return Err(Refused(15, 0));
     }
@@ -84,11 +97,11 @@ pub fn words(length: u32, windows: &[u32], rows: &[u32], partition: u32) -> Resu
 
 /// The due tick after a cold start and so many events, each call answered with zero and each tick the due one. The plan is checked at every event,
 /// and the state is tested as an ordinary switcher would.
-pub fn driven(length: u32, windows: &[u32], rows: &[u32], events: u32) -> u32 {
+pub fn driven<const SHORT: bool>(length: u32, windows: &[u32], rows: &[u32], events: u32) -> u32 {
     let count = windows.len() / 3;
     let (mut current, mut target, mut due, mut stage) = (0, 0, 0, 2);
     for _ in 0..events {
-        if check(std::hint::black_box(length), windows, rows).is_err() || target >= count || due >= length {
+        if check::<SHORT>(std::hint::black_box(length), windows, rows).is_err() || target >= count || due >= length {
             return due;
         }
         match stage {

@@ -72,6 +72,17 @@ fn likely_rows(d: &mut Dice, plan: &mut Plan) {
     }
 }
 
+/// The check takes a shorter way where rows are in order: they stay so, turn round, or come in any order.
+fn reorder(d: &mut Dice, plan: &mut Plan) {
+    let mut records: Vec<[u32; 4]> = plan.rows.as_chunks().0.to_vec();
+    match d.below(3) {
+        0 => return,
+        1 => records.reverse(),
+        _ => (1..records.len()).for_each(|i| records.swap(i, d.below(i as u64 + 1) as usize)),
+    }
+    plan.rows = records.concat();
+}
+
 /// Sums of 2^32, which 32 bits take for 0: the last window's end with a length of 0, or two rows that end at the top.
 fn wrap(d: &mut Dice, plan: &mut Plan) {
     let last = plan.windows.len().saturating_sub(3);
@@ -171,6 +182,7 @@ fn main() {
         let mut plan = Plan { length: 0, windows: Vec::new(), rows: Vec::new() };
         sound_windows(&mut d, &mut plan);
         likely_rows(&mut d, &mut plan);
+        reorder(&mut d, &mut plan);
         for _ in 0..d.pick(&[0, 0, 1, 1, 2]) {
             damage(&mut d, &mut plan);
         }

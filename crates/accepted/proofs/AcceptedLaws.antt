@@ -15,17 +15,20 @@ use Rattle.refusal.proofs.Tests.{equal, positive, at-most}
 use Rattle.records.specs.declared.Window.{Window}
 use Rattle.plan.specs.Plan.{Plan, frameLength, windowCount, rowCount, windowOf, rowOf, offsetOf, budgetOf, ownerOf}
 use Rattle.records.specs.Records.{maxPartition, endOf, startOf}
-use Rattle.rows.specs.Rows.{maxRowsEach, minSize, maxAccess, rowsOf}
+use Rattle.row.specs.Tests.{minSize, maxAccess}
+use Rattle.row.specs.Addresses.{RowsClash}
+use Rattle.row.proofs.ClashLaws.{turned}
+use Rattle.row.proofs.Powers.{power-of-two}
+use Rattle.row.proofs.TestLaws.{row-accepted, multiple-of}
+use Rattle.rows.specs.Rows.{maxRowsEach, rowsOf}
 use Rattle.plan.specs.Faults.{verdictOf}
 use Rattle.rows.specs.Tests.{rowTest}
 use Rattle.plan.specs.Parts.{windowFault, windowTest}
-use Rattle.rows.specs.Addresses.{RowsClash}
 use Rattle.accepted.specs.Accepted as declared
 use Rattle.plan.proofs.CheckLaws.{countsTest, lengthTest, in-order, counts-accepted}
-use Rattle.rows.proofs.ClashLaws.{clashes-accepted, turned}
-use Rattle.rows.proofs.Powers.{power-of-two}
+use Rattle.rows.proofs.ClashLaws.{clashes-accepted}
 use Rattle.rows.proofs.RowLaws.{eight-at-most, no-ninth}
-use Rattle.rows.proofs.TestLaws.{row-accepted, multiple-of, tests-accepted}
+use Rattle.rows.proofs.TestLaws.{tests-accepted}
 
 -- 2, 3, 4
 window-accepted : (i start : ℕ) (w : Window)

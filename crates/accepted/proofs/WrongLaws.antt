@@ -12,13 +12,14 @@ use Rattle.refusal.proofs.First.{refuses-if}
 use Rattle.refusal.proofs.Tests.{equal, at-most, neither, found, same, above}
 use Rattle.plan.specs.Plan.{Plan, frameLength, windowOf, ownerOf, offsetOf, budgetOf, rowOf}
 use Rattle.records.specs.Records.{maxPartition, endOf, startOf}
-use Rattle.rows.specs.Rows.{maxRowsEach, maxAccess}
+use Rattle.row.specs.Tests.{maxAccess}
+use Rattle.row.proofs.TestLaws.{multiple-of}
+use Rattle.row.proofs.Powers.{power-of-two}
+use Rattle.rows.specs.Rows.{maxRowsEach}
 use Rattle.plan.specs.Faults.{wrong, verdictOf}
 use Rattle.accepted.specs.Wrong.{Wrong, FirstWrong}
 use Rattle.plan.proofs.CheckLaws.{counts-accepted, refused-first, first-refused}
-use Rattle.rows.proofs.TestLaws.{multiple-of}
 use Rattle.rows.proofs.ClashLaws.{clash-found}
-use Rattle.rows.proofs.Powers.{power-of-two}
 
 never : (false ≡ true) ↔ ⊥
 never = (λ e. false≢true e, λ n. absurd n)

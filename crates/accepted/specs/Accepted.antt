@@ -3,8 +3,9 @@ use mathlib.Core.Path.{_≡_}
 use Prim.Native.Nat.{ℕ, suc, _≤_, _<_}
 use lib.ListN.{length}
 use Rattle.plan.specs.Plan.{Plan, frameLength, windowCount, rowCount, windowOf, ownerOf, offsetOf, budgetOf, rowOf, CountsInRange}
-use Rattle.rows.specs.Rows.{maxRowsEach, minSize, maxAccess, rowsOf}
-use Rattle.rows.specs.Addresses.{PowerOfTwo, MultipleOf, RowsClash}
+use Rattle.row.specs.Tests.{minSize, maxAccess}
+use Rattle.row.specs.Addresses.{PowerOfTwo, MultipleOf, RowsClash}
+use Rattle.rows.specs.Rows.{maxRowsEach, rowsOf}
 use Rattle.records.specs.Records.{maxPartition, endOf}
 
 pub record AcceptedIf (p : Plan) : Type 0 where

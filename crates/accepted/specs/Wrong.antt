@@ -9,9 +9,10 @@ use Rattle.refusal.specs.declared.Refusal.{Refusal}
 use Rattle.refusal.specs.declared.Refusal.the-variants.{Counts, ZeroBudget, WrongStart, UnknownOwner, WrongLength, UnknownPartition, BadSize, BadBase, BadAccess, NinthRow, Clash, TickPastFrame, NoCallOpen, MachineStopped, NoWordsFor, LogTooShort, StrangeState}
 use Rattle.plan.specs.Plan.{Plan, frameLength, windowOf, ownerOf, offsetOf, budgetOf, rowOf, CountsInRange}
 use Rattle.records.specs.Records.{maxPartition, endOf, startOf}
-use Rattle.rows.specs.Rows.{maxRowsEach, minSize, maxAccess, rowsOf}
+use Rattle.row.specs.Tests.{minSize, maxAccess}
+use Rattle.row.specs.Addresses.{PowerOfTwo, MultipleOf, RowsClash}
+use Rattle.rows.specs.Rows.{maxRowsEach, rowsOf}
 use Rattle.plan.specs.Faults.{order}
-use Rattle.rows.specs.Addresses.{PowerOfTwo, MultipleOf, RowsClash}
 
 abbrev pub Wrong : Plan → Refusal → Type 0
 Wrong p Counts = CountsInRange p → ⊥

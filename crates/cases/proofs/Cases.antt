@@ -8,8 +8,9 @@ use lib.ListN.{getD}
 use Rattle.refusal.specs.First.{refuseIf, orElse, refused, firstFault, upward, testAt, firstOf}
 use Rattle.timeline.specs.Windows.{holdsb, windowAt}
 use Rattle.timeline.specs.Lookup.{lookupVerdict}
+use Rattle.row.specs.Tests.{sharesAddress, clashes}
 use Rattle.rows.specs.Rows.{rowsOf}
-use Rattle.rows.specs.Tests.{wrongRowCount, sharesAddress, clashes, clashTest, clashesBefore}
+use Rattle.rows.specs.Tests.{wrongRowCount, clashTest, clashesBefore}
 use Rattle.major_frame.specs.Frame.{windowFault, windowTest, lengthTest, frameVerdict, currentWindow}
 use Rattle.switcher.specs.Switch.{made, newOf}
 use Rattle.plan.specs.Faults.{wrongCounts, wrong, pastCounts, order, verdictOf}

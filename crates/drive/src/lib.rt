@@ -1,4 +1,4 @@
-// A machine that is driven on: each open call is answered with zero, each tick is the due one. bench/events.rs times it.
+// A machine that is driven on: each open call is answered with zero, each tick is the due one. bench/main.rs times it.
 ghost use mathlib.Core.Path.{_≡_};
 ghost use Rattle.plan.specs.Plan.{planOf};
 ghost use Rattle.drive.specs.Drive.{onward, driven};

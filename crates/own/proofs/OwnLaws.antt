@@ -18,12 +18,13 @@ use Rattle.refusal.specs.declared.Verdict.the-variants.{Accepted, Refused}
 use Rattle.records.specs.declared.Row.{Row}
 use Rattle.plan.specs.Plan.{Plan, rowCount, rowOf, ownRows}
 use Rattle.records.specs.Records.{AllU32, maxPartition, nthRow}
-use Rattle.rows.specs.Rows.{maxRowsEach, minSize, maxAccess, rowsOf}
+use Rattle.row.specs.Tests.{minSize, maxAccess}
+use Rattle.row.specs.Addresses.{PowerOfTwo, MultipleOf, RowsClash}
+use Rattle.rows.specs.Rows.{maxRowsEach, rowsOf}
 use Rattle.plan.specs.Faults.{verdictOf}
 use Rattle.rows.specs.Tests.{oneIfOwn}
 use Rattle.own.specs.Own.{withOwn, noRow, packed, owned, ownRowsOf}
 use Rattle.accepted.specs.Accepted as declared
-use Rattle.rows.specs.Addresses.{PowerOfTwo, MultipleOf, RowsClash}
 use Rattle.own.proofs.PaddedLaws.{one-more}
 use Rattle.rows.proofs.RowLaws.{count-own, count-other}
 

@@ -13,8 +13,9 @@ use Rattle.refusal.specs.declared.Verdict.{Verdict}
 use Rattle.refusal.specs.declared.Verdict.the-variants.{Accepted, Refused}
 use Rattle.refusal.specs.First.{refuseIf, orElse, refused, firstFault, upward, testAt, firstOf, FirstIn}
 use native.Mathlib.Omega.{arith}
+use Rattle.row.specs.Tests.{clashes, rowFault}
 use Rattle.rows.proofs.TestLaws.{row-count-right, counted as rows-counted}
-use Rattle.rows.specs.Tests.{rowsVerdict, clashes, clashTest, clashesBefore, rowFault, rowTest}
+use Rattle.rows.specs.Tests.{rowsVerdict, clashTest, clashesBefore, rowTest}
 use Rattle.refusal.proofs.Tests.{equal, positive, at-most, neither}
 use Rattle.plan.specs.Plan.{CountsInRange, Plan, frameLength, windowCount, rowCount, windowOf}
 use Rattle.refusal.proofs.First.{refuses-if, or-accepted, or-assoc, one-kind, first-of-cons, first-of-both, first-upward, first-in, in-first}

@@ -10,7 +10,8 @@ use Rattle.refusal.specs.declared.Refusal.the-variants.{Counts, ZeroBudget, Wro
 use Rattle.refusal.specs.declared.Verdict.{Verdict}
 use Rattle.refusal.specs.First.{upward, firstOf, refused}
 use Rattle.records.specs.declared.Window.{Window}
-use Rattle.rows.specs.Tests.{wrongRowCount, unknownPartition, badSize, badBase, badAccess, ninthRow, clashesBefore}
+use Rattle.row.specs.Tests.{unknownPartition, badSize, badBase, badAccess}
+use Rattle.rows.specs.Tests.{wrongRowCount, ninthRow, clashesBefore}
 use Rattle.plan.specs.Plan.{Plan, maxWindows, frameLength, windowCount, rowCount, windowOf, rowOf}
 use Rattle.records.specs.Records.{maxPartition, endOf, startOf}
 

@@ -1,4 +1,4 @@
+pub mod CarriedLaws
 pub mod ClashLaws
-pub mod Powers
 pub mod RowLaws
 pub mod TestLaws

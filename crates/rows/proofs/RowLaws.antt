@@ -10,15 +10,11 @@ use native.Mathlib.Omega.{arith}
 use borrow.Author.Tests.{eq-eqb, ne-eqb}
 use lib.Dec.{eqb}
 use lib.ListN.{length, length-append}
-use Rattle.refusal.specs.declared.Refusal.{Refusal}
-use Rattle.refusal.specs.declared.Refusal.the-variants.{NinthRow}
-use Rattle.refusal.specs.declared.Verdict.the-variants.{Accepted, Refused}
-use Rattle.refusal.specs.First.{refuseIf, orElse}
 use Rattle.refusal.proofs.Tests.{either-at-most}
 use Rattle.records.specs.declared.Row.{Row}
 use Rattle.rows.specs.Rows.{maxRowsEach, rowsOf}
 use Rattle.records.specs.Records.{nthRow}
-use Rattle.rows.specs.Tests.{clashesBefore, oneIfOwn, rowFault, rowTest}
+use Rattle.rows.specs.Tests.{oneIfOwn}
 
 one-or-none : (b : Bool) (r : Row) → length (cond b (r ∷ []) []) ≡ cond b 1 0
 one-or-none true r = refl
@@ -71,19 +67,3 @@ module _ (rows : List ℕ) where
   no-ninth m eight i h e =
       let q = nthRow rows i .partition .0 in
       omega (arith, eight q, count-own rows q i refl, count-mono rows q (suc i) m (omega arith))
-
--- the tests of row i, one after the other
-module _ (rows : List ℕ) (i : ℕ) where
-  pub row-refused : (r : Refusal) → rowFault i (nthRow rows i) ≡ Refused r → rowTest rows i ≡ Refused r
-  unfolding rowTest orElse
-  row-refused r e = rw e
-
-  pub row-is-ninth : rowFault i (nthRow rows i) ≡ Accepted → length (rowsOf rows (nthRow rows i .partition .0) i) ≡ maxRowsEach
-      → rowTest rows i ≡ Refused (NinthRow i)
-  unfolding rowTest orElse refuseIf
-  row-is-ninth e n = rw (e, eq-eqb _ _ n)
-
-  pub row-may-clash : rowFault i (nthRow rows i) ≡ Accepted → (length (rowsOf rows (nthRow rows i .partition .0) i) ≡ maxRowsEach → ⊥)
-      → rowTest rows i ≡ clashesBefore rows i
-  unfolding rowTest orElse refuseIf
-  row-may-clash e n = rw (e, ne-eqb _ _ n)

@@ -1,3 +1,3 @@
-pub mod Addresses
+pub mod Carried
 pub mod Rows
 pub mod Tests

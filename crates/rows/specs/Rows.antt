@@ -13,12 +13,6 @@ maxRows = 128
 abbrev pub maxRowsEach : ℕ
 maxRowsEach = 8
 
-abbrev pub minSize : ℕ
-minSize = 32
-
-abbrev pub maxAccess : ℕ
-maxAccess = 2
-
 -- the rows of partition q among the first n, in table order
 unfoldable pub rowsOf : List ℕ → ℕ → ℕ → List Row
 rowsOf rows q zero = []

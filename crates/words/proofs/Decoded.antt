@@ -13,7 +13,7 @@ use lib.Dec.{leb, ltb, eqb}
 use lib.Pow.{pow-add, shl-shr}
 use Rattle.records.specs.declared.Row.{Row}
 use Rattle.records.specs.Records.{writable, executable}
-use Rattle.rows.specs.Addresses.{MultipleOf}
+use Rattle.row.specs.Addresses.{MultipleOf}
 use Rattle.words.specs.Slots.{Right, read, write, execute, allows, rowSlot, noSlot}
 use Rattle.words.specs.Manual.{rasrWord, rbarOf, rasrOf, sizeOf, baseOf, switchedOff, inRegion, mayRead, mayWrite, may, decode}
 use Rattle.words.specs.Words.{sizeField, apOf, xnOf, readAp, writeAp, rowRbar, rowRasr, rowPair, freePair, sums}

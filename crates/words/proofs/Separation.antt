@@ -13,7 +13,7 @@ use Rattle.plan.specs.Plan.{Plan, ownRows}
 use Rattle.records.specs.Records.{maxPartition, writable}
 use Rattle.own.specs.Own.{noRow}
 use Rattle.accepted.specs.Accepted as declared
-use Rattle.rows.specs.Addresses.{Covers}
+use Rattle.row.specs.Addresses.{Covers}
 use Rattle.own.proofs.OwnLaws.{sound, no-clash}
 use Rattle.words.proofs.SlotLaws.{row-covers, filled-slot, free-slot}
 use Rattle.words.specs.Slots.{slotCount, write, Slot, rowSlot, noSlot, AsPlanned, Separated, NoTwoShare}

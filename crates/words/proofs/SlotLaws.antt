@@ -10,8 +10,8 @@ use native.Mathlib.Omega.{arith}
 use borrow.Author.Tests.{leb-true, ltb-true, le-leb, lt-ltb, le-ltb}
 use lib.ListN.{length, getD}
 use Rattle.records.specs.declared.Row.{Row}
+use Rattle.row.specs.Addresses.{Covers}
 use Rattle.rows.specs.Rows.{maxRowsEach}
-use Rattle.rows.specs.Addresses.{Covers}
 use Rattle.own.specs.Own.{noRow, packed}
 use Rattle.own.proofs.PaddedLaws.{padded-at}
 use Rattle.words.specs.Slots.{rowSlot, atSlot}

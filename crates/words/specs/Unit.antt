@@ -9,7 +9,7 @@ use Rattle.plan.specs.Plan.{Plan, ownRows}
 use Rattle.records.specs.Records.{AllU32, maxPartition}
 use Rattle.own.specs.Own.{noRow}
 use Rattle.accepted.specs.Accepted.{AcceptedIf}
-use Rattle.rows.specs.Addresses.{Covers}
+use Rattle.row.specs.Addresses.{Covers}
 use Rattle.words.specs.Slots.{slotCount, Right, write, allows}
 use Rattle.words.specs.Manual.{Mpu, programmed, Off, unprivileged}
 use Rattle.words.specs.Words.{wordsOf}

@@ -1,13 +1,15 @@
 -- `clashes_before` meets its contract. The loop's invariant: what the fold says of all earlier rows is what it says from row j on.
 -- Assumes nothing.
-use mathlib.Core.Path.{_≡_, sym, _∙_}
+use mathlib.Core.Bool.{Bool}
+use mathlib.Core.Path.{_≡_, sym, ap, _∙_}
 use Prim.Native.Nat.{_≤_, _-_}
 use native.Mathlib.Omega.{arith}
 use borrow.Author.Needs.{needs}
 use Rattle.refusal.specs.declared.Refusal.the-variants.{Clash}
 use Rattle.refusal.specs.First.{firstFault, refuseIf}
 use Rattle.refusal.proofs.First.{starts, goes-on, stops, ends}
-use Rattle.rows.specs.Tests.{clashes, clashTest, clashesBefore}
+use Rattle.row.specs.Tests.{clashes}
+use Rattle.rows.specs.Tests.{clashTest, clashesBefore}
 use Rattle.rows.proofs.tests.clashes_before.Statement.{statement}
 use Rattle.rows.proofs.tests.clashes_before.Tie as tie
 
@@ -25,28 +27,23 @@ loop-holds c = (omega arith, starts _ _)
 row-in-requires : tie.Need-row-in-requires Inv-loop μ-loop
 row-in-requires c κs = search needs
 
-clash-fault-requires : tie.Need-clash-fault-requires Inv-loop μ-loop
-clash-fault-requires c κs = search needs
+clashes-requires : tie.Need-clashes-requires Inv-loop μ-loop
+clashes-requires c κs = search needs
 
-enum-told : tie.Need-enum-told Inv-loop μ-loop
-enum-told c = search needs
-
-enum-told-2 : tie.Need-enum-told-2 Inv-loop μ-loop
-enum-told-2 c = search needs
-
-tested : (c : tie.After-clash-fault Inv-loop μ-loop)
-    → clashTest (c .before .before .before .before .before .args .rows .now) (c .before .before .before .before .before .args .i) (c .before .before .before .loop .j) ≡ c .clash-fault .result
+-- what `clashes` said, it said of rows j and i
+tested : (c : tie.After-clashes Inv-loop μ-loop)
+    → clashTest (c .before .before .before .before .before .args .rows .now) (c .before .before .before .before .before .args .i) (c .before .before .before .loop .j)
+    ≡ refuseIf (c .clashes .result) (Clash (c .before .before .before .before .before .args .i))
 unfolding clashTest
 tested c =
     let a = c .before .before .before .before .before in
-    sym (c .clash-fault .ensures ∙ (λ k. refuseIf (clashes (c .before .row-in .ensures k) (a .pre .1 k)) (Clash (a .args .i))))
+    ap (λ (b : Bool). refuseIf b (Clash (a .args .i))) (sym (c .clashes .ensures ∙ (λ k. clashes (c .before .row-in .ensures k) (a .pre .1 k))))
 
 returns : tie.Need-returns Inv-loop μ-loop
-unfolding clashesBefore
+unfolding clashesBefore refuseIf
 returns c =
-    let told = c .enum-told2 .given in
-    let at = c .before .before .before .before .before in
-    told .1 ∙ sym (at .loop .inv .1 ∙ stops _ _ _ (told .0 .0) (search needs) (tested (c .before .before) ∙ told .1))
+    let at = c .before .before .before .before in
+    sym (at .loop .inv .1 ∙ stops _ _ _ (Clash (at .before .before .args .i)) (search needs) (tested (c .before) ∙ ap (λ (b : Bool). refuseIf b (Clash (at .before .before .args .i))) (c .if1 .taken)))
 
 add-j : tie.Need-add-j Inv-loop μ-loop
 add-j c = search needs
@@ -55,9 +52,10 @@ loop-less : tie.Need-loop-less Inv-loop μ-loop
 loop-less c = search needs
 
 loop-again : tie.Need-loop-again Inv-loop μ-loop
+unfolding refuseIf
 loop-again c =
-    let at = c .before .before .before .before .before in
-    (omega arith, at .loop .inv .1 ∙ goes-on _ _ _ (search needs) (tested (c .before .before) ∙ c .enum-told .given .1))
+    let at = c .before .before .before .before in
+    (omega arith, at .loop .inv .1 ∙ goes-on _ _ _ (search needs) (tested (c .before) ∙ ap (λ (b : Bool). refuseIf b (Clash (at .before .before .args .i))) (c .if1 .left)))
 
 returns-2 : tie.Need-returns-2 Inv-loop μ-loop
 unfolding clashesBefore
@@ -71,9 +69,7 @@ clashes-before-spec =
     μ-loop
     loop-holds
     row-in-requires
-    clash-fault-requires
-    enum-told
-    enum-told-2
+    clashes-requires
     returns
     add-j
     loop-less

@@ -8,7 +8,7 @@ use native.Mathlib.Decide.{ℕ-discrete}
 use native.Mathlib.Omega.{arith}
 use lib.Count.{ones, ones-step, ones-cat}
 use lib.Pow.{pow-pos}
-use Rattle.rows.specs.Addresses.{PowerOfTwo}
+use Rattle.row.specs.Addresses.{PowerOfTwo}
 
 -- by induction on a bound d
 none-set : (d n : ℕ) → n ≤ d → ones n ≡ 0 → n ≡ 0

@@ -3,9 +3,9 @@
 use borrow.Author.Needs.{needs}
 use borrow.Author.Tests.{eq-eqb, le-ltb, lt-ltb, ne-eqb}
 use Rattle.refusal.specs.First.{refuseIf, orElse}
-use Rattle.rows.specs.Tests.{rowFault}
-use Rattle.rows.proofs.tests.row_fault.Statement.{statement}
-use Rattle.rows.proofs.tests.row_fault.Tie as tie
+use Rattle.row.specs.Tests.{rowFault}
+use Rattle.row.proofs.row_fault.Statement.{statement}
+use Rattle.row.proofs.row_fault.Tie as tie
 
 returns : tie.Need-returns
 unfolding rowFault refuseIf orElse

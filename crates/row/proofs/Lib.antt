@@ -1,0 +1,3 @@
+pub mod ClashLaws
+pub mod Powers
+pub mod TestLaws
