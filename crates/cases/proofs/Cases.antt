@@ -6,7 +6,7 @@ use native.Mathlib.Omega.{arith}
 use lib.Count.{ones, trailingZeros}
 use lib.ListN.{getD}
 use Rattle.refusal.specs.First.{refuseIf, orElse, refused, firstFault, upward, testAt, firstOf}
-use Rattle.timeline.specs.Windows.{holdsb, windowAt}
+use Rattle.timeline.specs.Windows.{holdsb, windowAt, nextWindow, nextTick}
 use Rattle.timeline.specs.Lookup.{lookupVerdict}
 use Rattle.row.specs.Tests.{sharesAddress, clashes}
 use Rattle.rows.specs.Rows.{rowsOf}
@@ -15,6 +15,12 @@ use Rattle.major_frame.specs.Frame.{windowFault, windowTest, lengthTest, frameV
 use Rattle.switcher.specs.Switch.{made, newOf}
 use Rattle.plan.specs.Faults.{wrongCounts, wrong, pastCounts, order, verdictOf}
 use Rattle.lookup.specs.Lookup.{lookupOf}
+use Rattle.guard.specs.Guard.{placedAt, fitsAt, stateVerdict, guardOf}
+use Rattle.state.specs.Start.{ifAccepted, coldMove, coldOf}
+use Rattle.switch.specs.Step.{tickTaken, tickAt, tickIn, tickMove, zeroAt, replyAt, statusIn, statusMove}
+use Rattle.switch.specs.Machine.{tickOf, statusVerdict, statusOf}
+use Rattle.log.specs.Log.{tooShort, logged, callsLogged}
+use Rattle.run.specs.Run.{tickTurn, statusTurn, turn, goOn, runVerdict, runOf, logOf}
 use Rattle.words.specs.declared.Pair.{Pair}
 use Rattle.words.specs.Slots.{write, Slot, atSlot}
 use Rattle.words.specs.Manual.{decode}
@@ -22,7 +28,7 @@ use Rattle.words.specs.Words.{noPair, rowPair, freePair, upTo, wordsVerdict, an
 use Rattle.cases.specs.Cases.{four, frameA, threeRows, Table, lastByte, LastByteWritten}
 
 pub table : Table
-unfolding refuseIf orElse refused firstFault upward testAt firstOf holdsb windowAt lookupVerdict rowsOf wrongRowCount sharesAddress clashes clashTest clashesBefore wrongCounts wrong pastCounts order verdictOf lookupOf windowFault windowTest lengthTest frameVerdict currentWindow made newOf four frameA threeRows ones trailingZeros rowPair freePair atSlot upTo wordsVerdict answer wordsOf
+unfolding refuseIf orElse refused firstFault upward testAt firstOf holdsb windowAt lookupVerdict rowsOf wrongRowCount sharesAddress clashes clashTest clashesBefore wrongCounts wrong pastCounts order verdictOf lookupOf windowFault windowTest lengthTest frameVerdict currentWindow made newOf four frameA threeRows ones trailingZeros rowPair freePair atSlot upTo wordsVerdict answer wordsOf nextWindow nextTick placedAt fitsAt stateVerdict guardOf ifAccepted coldMove coldOf tickTaken tickAt tickIn tickMove zeroAt replyAt statusIn statusMove tickOf statusVerdict statusOf tooShort logged callsLogged tickTurn statusTurn turn goOn runVerdict runOf logOf
 table =
     record {
       a-is-accepted = refl;
@@ -41,6 +47,10 @@ table =
       row-in-a-writable-row = refl;
       three-rows = refl;
       three-rows-words = refl;
+      five-zeros = record { accepted = refl; in-phase = refl; in-window = (refl, refl); next-tick = refl; used = refl };
+      five-zeros-log = refl;
+      stopped-on-7 = record { accepted = refl; in-phase = refl; in-window = (refl, refl); next-tick = refl; used = refl };
+      stopped-on-7-log = refl;
     }
 
 pub last-byte-written : LastByteWritten

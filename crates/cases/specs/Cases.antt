@@ -1,8 +1,9 @@
--- The cases that document 01 marks with *, as far as plans, region words and the four-window port decide them, in one table ("Frame A and its
+-- The cases that document 01 marks with *, in one table ("Frame A and its
 -- neighbours"). An outcome is a number and a place, 0 and 0 where accepted.
 use mathlib.Core.List.{List, [], _∷_, _++_}
 use mathlib.Core.Path.{_≡_}
 use Prim.Native.Nat.{ℕ}
+use lib.ListN.{replicate}
 use Rattle.refusal.specs.Table.{outcome}
 use Rattle.major_frame.specs.declared.MajorFrame.{MajorFrame}
 use Rattle.major_frame.specs.Frame.{currentWindow}
@@ -10,6 +11,10 @@ use Rattle.switcher.specs.Switch.{zeros, newOf}
 use Rattle.plan.specs.Plan.{Plan, planOf}
 use Rattle.plan.specs.Faults.{verdictOf}
 use Rattle.lookup.specs.Lookup.{lookupOf}
+use Rattle.protocol.specs.declared.PhaseWords.{PhaseWords}
+use Rattle.protocol.specs.Numbers.{phaseOf, phaseWords}
+use Rattle.run.specs.declared.RunAnswer.{RunAnswer}
+use Rattle.run.specs.Run.{runOf, logOf}
 use Rattle.words.specs.declared.Pair.{Pair}
 use Rattle.words.specs.Slots.{write, Reachable}
 use Rattle.words.specs.Words.{wordsOf, slotsUnder}
@@ -58,6 +63,24 @@ threeRows = frameA (row 0 0x20000000 1024 1 ++ row 0 0x08000000 65536 2 ++ row 0
 abbrev pub pair : (first second : ℕ) → Pair
 pair first second = record { first = first; second = second }
 
+-- runs of frame A over ticks 0 to 9, with a log of 4 + 6 × 10 words that hold 9
+abbrev pub tenTicks : List ℕ
+tenTicks = 0 ∷ 1 ∷ 2 ∷ 3 ∷ 4 ∷ 5 ∷ 6 ∷ 7 ∷ 8 ∷ 9 ∷ []
+
+abbrev pub runA : (statuses : List ℕ) → RunAnswer
+runA statuses = runOf (frameA []) tenTicks statuses (replicate 64 9)
+
+abbrev pub logA : (statuses : List ℕ) → List ℕ
+logA statuses = logOf (frameA []) tenTicks statuses (replicate 64 9)
+
+-- the end of a run: its outcome, the words of its phase, current and target window, due tick; ticks and statuses used, calls written
+pub record Ends (r : RunAnswer) (phase : PhaseWords) (current target due : ℕ) (counts : ℕ × ℕ × ℕ) : Type 0 where
+  pub accepted : outcome (r .verdict) ≡ (0, 0)
+  pub in-phase : phaseWords (r .state .phase) ≡ phase
+  pub in-window : (r .state .current .0 ≡ current) × (r .state .target .0 ≡ target)
+  pub next-tick : r .state .due ≡ due
+  pub used : (r .ticks, r .statuses, r .calls) ≡ counts
+
 pub record Table : Type 0 where
   pub a-is-accepted : checked (frameA []) ≡ (0, 0)
   pub tick-9 : (lookup (frameA []) 9 ≡ (0, 0)) × (window (frameA []) 9 ≡ 0)
@@ -77,6 +100,10 @@ pub record Table : Type 0 where
   pub three-rows-words : wordsOf threeRows 0 .slots
       ≡ pair 0x20000010 0x13080013 ∷ pair 0x08000011 0x0608001F ∷ pair 0x40000012 0x16080009
       ∷ pair 0x13 0 ∷ pair 0x14 0 ∷ pair 0x15 0 ∷ pair 0x16 0 ∷ pair 0x17 0 ∷ []
+  pub five-zeros : Ends (runA (0 ∷ 0 ∷ 0 ∷ 0 ∷ 0 ∷ [])) (phaseOf 0 0 0 0) 1 1 10 (10, 5, 5)
+  pub five-zeros-log : logA (0 ∷ 0 ∷ 0 ∷ 0 ∷ 0 ∷ []) ≡ (2 ∷ 0 ∷ 3 ∷ 0 ∷ 1 ∷ 0 ∷ 2 ∷ 1 ∷ 3 ∷ 1 ∷ []) ++ replicate 54 9
+  pub stopped-on-7 : Ends (runA (0 ∷ 0 ∷ 0 ∷ 7 ∷ [])) (phaseOf 4 2 3 7) 0 1 10 (10, 4, 4)
+  pub stopped-on-7-log : logA (0 ∷ 0 ∷ 0 ∷ 7 ∷ []) ≡ (2 ∷ 0 ∷ 3 ∷ 0 ∷ 1 ∷ 0 ∷ 2 ∷ 1 ∷ []) ++ replicate 56 9
 
 -- there are addresses that a partition may write: the last byte of the first of the three rows
 abbrev pub lastByte : ℕ

@@ -119,10 +119,10 @@ module _ (p : Plan) (a : plan.AcceptedIf p) where
     open-call ProgramRegions e = ap openCall (talks (At ProgramRegions) e .1)
     open-call Resume e = ap openCall (talks (At Resume) e .1)
 
-    not-open : h .state .phase ≡ At Running → Open h → ⊥
+    pub not-open : h .state .phase ≡ At Running → Open h → ⊥
     not-open e waits = waits (open-call Running e)
 
-    is-open : (stage : Stage) → h .state .phase ≡ At stage → callOpen stage ≡ true → Open h
+    pub is-open : (stage : Stage) → h .state .phase ≡ At stage → callOpen stage ≡ true → Open h
     is-open Running e waits none = false≢true waits
     is-open SaveCtx e waits none = omega (arith, apart (sym (open-call SaveCtx e) ∙ none))
     is-open ProgramRegions e waits none = omega (arith, apart (sym (open-call ProgramRegions e) ∙ none))

@@ -49,7 +49,7 @@ numbered : (v : Verdict) (number place : ℕ) → 0 < number → outcome v ≡ (
 numbered Accepted number place some e = absurd (omega (arith, ap (λ (o : ℕ × ℕ). o .0) e))
 numbered (Refused r) number place some e = (r, refl)
 
-accepted : (p : Plan) → CheckAccepts p → verdictOf p ≡ Accepted
+pub accepted : (p : Plan) → CheckAccepts p → verdictOf p ≡ Accepted
 accepted p ok = same-outcome (verdictOf p) Accepted ok
 
 pub right-verdict : (p : Plan) → RightVerdict p (verdictOf p)

@@ -1,4 +1,5 @@
 pub mod Answers
+pub mod CallLaws
 pub mod Cases
 pub mod EqualLaws
 pub mod Exact

@@ -22,7 +22,7 @@ use Rattle.guard.proofs.FitsLaws.{InWindow, Between, AtStart, FitsPhase, Fits}
 
 module _ (p : Plan) (a : AcceptedIf p) where
   -- where a switch leads, the due tick is in the window
-  arrives : {current target due : ℕ} → AtStart current target due ⊎ Between p current target due → InWindow p target target due
+  pub arrives : {current target due : ℕ} → AtStart current target due ⊎ Between p current target due → InWindow p target target due
   arrives {current} {target} {due} (inl w) =
       rw (w .to-0, w .first-due)
       (record {

@@ -2,7 +2,7 @@
 -- the last end is the frame length (document 01, "A plan"). Over any number of windows, any offsets and any budgets.
 use mathlib.Core.Bool.{Bool, cond, _&&_}
 use mathlib.Core.Path.{_≡_}
-use Prim.Native.Nat.{ℕ, zero, suc, _+_, _≤_, _<_}
+use Prim.Native.Nat.{ℕ, zero, suc, _+_, _*_, _/_, _%_, _≤_, _<_}
 use lib.Dec.{leb, ltb}
 
 pub record Follow (n : ℕ) (offset budget : ℕ → ℕ) (frameLength : ℕ) : Type 0 where
@@ -31,6 +31,10 @@ holdsb offset budget i t = leb (offset i) t && ltb t (offset i + budget i)
 unfoldable pub windowAt : ℕ → (ℕ → ℕ) → (ℕ → ℕ) → ℕ → ℕ
 windowAt zero offset budget t = 0
 windowAt (suc n) offset budget t = cond (holdsb offset budget n t) n (windowAt n offset budget t)
+
+-- how many windows have ended after N ticks, frame after frame
+unfoldable pub windowsEnded : ℕ → (ℕ → ℕ) → (ℕ → ℕ) → (frameLength N : ℕ) → ℕ
+windowsEnded n offset budget frameLength N = N / frameLength * n + windowAt n offset budget (N % frameLength)
 
 -- the window after i, window 0 after the last
 unfoldable pub nextWindow : ℕ → ℕ → ℕ

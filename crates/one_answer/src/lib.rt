@@ -1,0 +1,1 @@
+// Theorems only: each public contract admits one answer only.
