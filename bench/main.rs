@@ -142,8 +142,30 @@ fn events() {
     }
 }
 
+/// A whole run over frame A, by the number of ticks: the proved one checks the plan and the state at every event, the ordinary one the plan once.
+fn runs() {
+    let windows = [0, 0, 10, 1, 10, 20, 0, 30, 5, 2, 35, 15];
+    for count in [100_000, 1_000_000, 10_000_000u32] {
+        let ticks: Vec<u32> = (0..count).map(|k| k % 50).collect();
+        let statuses = vec![0; count as usize / 50 * 12 + 2];
+        let (mut log, mut other) = (vec![0; 4 + 6 * count as usize], vec![0; 4 + 6 * count as usize]);
+        let calls = proved::run(50, &windows, &[], &ticks, &statuses, &mut log);
+        assert_eq!(Some(calls), ordinary::run(50, &windows, &[], &ticks, &statuses, &mut other).ok());
+        assert!(log == other, "the logs differ");
+        compare(
+            &format!("a tick of a run over {count} ticks"),
+            count,
+            vec![
+                repeat("proved", 1, || proved::run(50, &windows, &[], &ticks, &statuses, &mut log)),
+                repeat("ordinary", 1, || ordinary::run(50, &windows, &[], &ticks, &statuses, &mut other)),
+            ],
+        );
+    }
+}
+
 fn main() {
     entry_points();
     events();
+    runs();
     orders();
 }

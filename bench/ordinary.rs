@@ -118,3 +118,46 @@ pub fn driven<const SHORT: bool>(length: u32, windows: &[u32], rows: &[u32], eve
     }
     due
 }
+
+/// A run as one would write it: the plan is checked once, then the lists are gone through. How many calls were written to the log.
+pub fn run(length: u32, windows: &[u32], rows: &[u32], ticks: &[u32], statuses: &[u32], log: &mut [u32]) -> Result<usize, Refused> {
+    check::<true>(length, windows, rows)?;
+    if (log.len() as u128) < 4 + 6 * ticks.len() as u128 {
+        return Err(Refused(16, 0));
+    }
+    let (count, owner) = (windows.len() / 3, |w: usize| windows[w * 3]);
+    let (mut current, mut target, mut due, mut stage, mut calls) = (0, 0, 0, 2, 0);
+    let (mut ticks, mut statuses) = (ticks.iter(), statuses.iter());
+    let mut call = |kind: u32, partition: u32| {
+        log[calls * 2] = kind;
+        log[calls * 2 + 1] = partition;
+        calls += 1;
+    };
+    call(2, owner(0));
+    loop {
+        if stage == 0 {
+            let Some(&t) = ticks.next() else { break };
+            if t != due {
+                break;
+            }
+            let last = u64::from(due) + 1 == u64::from(windows[current * 3 + 1]) + u64::from(windows[current * 3 + 2]);
+            due = if due + 1 < length { due + 1 } else { 0 };
+            if last {
+                (stage, target) = (1, if current + 1 < count { current + 1 } else { 0 });
+                call(1, owner(current));
+            }
+        } else {
+            let Some(&word) = statuses.next() else { break };
+            if word != 0 {
+                break;
+            }
+            match stage {
+                1 => call(2, owner(target)),
+                2 => call(3, owner(target)),
+                _ => current = target,
+            }
+            stage = (stage + 1) % 4;
+        }
+    }
+    Ok(calls)
+}

@@ -1,12 +1,13 @@
 -- Each bad version against the sentence that it breaks: a plan that has to be accepted, a tick in window 1, the two zeros that lead to Running, the
 -- save that a window's last tick asks for.
 -- Assumes nothing.
-use mathlib.Core.List.{List, [], _∷_, _++_}
-use mathlib.Core.Logic.{inr}
+use mathlib.Core.List.{List, [], _∷_, _++_, cons-ne-nil}
+use mathlib.Core.Logic.{inl, inr}
 use mathlib.Core.Path.{_≡_, refl, sym, ap, _∙_, subst}
 use Prim.Native.Nat.{ℕ}
 use native.Mathlib.Decide.{decLt}
 use native.Mathlib.Omega.{arith}
+use lib.ListN.{take, replicate}
 use Rattle.refusal.specs.declared.Verdict.{Verdict}
 use Rattle.refusal.specs.declared.Verdict.the-variants.{Accepted, Refused}
 use Rattle.refusal.specs.Table.{outcome}
@@ -20,16 +21,20 @@ use Rattle.plan.specs.Plan.{Plan, planOf, frameLength}
 use Rattle.plan.specs.Faults.{wrongCounts, wrong, pastCounts, order, verdictOf}
 use Rattle.lookup.specs.declared.Located.{Located}
 use Rattle.protocol.specs.declared.PhaseWords.{PhaseWords}
+use Rattle.protocol.specs.declared.Phase.{Phase}
+use Rattle.protocol.specs.Numbers.{phaseWords}
 use Rattle.guard.specs.Guard.{placedAt, fitsAt, stateVerdict, guardOf}
 use Rattle.state.specs.Start.{coldMove, ifAccepted, coldOf}
 use Rattle.switch.specs.Step.{tickTaken, tickAt, tickIn, tickMove, zeroAt, replyAt, statusAt, statusIn, statusMove}
 use Rattle.switch.specs.Machine.{tickOf, statusVerdict, statusOf}
 use Rattle.history.specs.Reached.{Event, tick, status}
-use Rattle.history.specs.History.{Entry, called, answered, history}
-use Rattle.demands.specs.Machine.{CheckAccepts, phaseNumber, Fault, FirstFault, Sentences}
+use Rattle.history.specs.History.{Entry, called, answered, machineOf, history}
+use Rattle.history.proofs.HistoryLaws.{start-phase}
+use Rattle.demands.specs.Machine.{CheckAccepts, phaseNumber, HasStopped, Fault, FirstFault, Sentences}
 use Rattle.demands.specs.Refusals.{RightVerdict, RightWindow}
-use Rattle.cases.specs.Cases.{four, frameA}
-use Rattle.cases.specs.BadVersions.{refusesEvery, saysZero, neverMoves, stopsAtOnce, asksAtOnce, startsRunning, runsOn, BadVersions, OneAnswer}
+use Rattle.demands.specs.Run.{ticksOf, statusesOf}
+use Rattle.cases.specs.Cases.{four, frameA, tenTicks}
+use Rattle.cases.specs.BadVersions.{refusesEvery, saysZero, neverMoves, stopsAtOnce, asksAtOnce, startsRunning, runsOn, Invented, BadVersions, OneAnswer}
 use Rattle.cases.proofs.Cases.{table}
 use Rattle.demands.proofs.Refusals.{right-verdict}
 
@@ -114,6 +119,26 @@ over-one-tick = (
   λ holds. omega (arith, phase (holds .stops _ .at-the-first late .phase)),
 )
 
+-- a run with nothing to take takes nothing; one with ten ticks and five zeros that says the same is not at its end
+nothing-taken : (events : List Event) → ticksOf events ≡ [] → statusesOf events ≡ [] → events ≡ []
+nothing-taken [] no-tick no-status = refl
+nothing-taken (tick t ∷ events) no-tick no-status = absurd (cons-ne-nil t (ticksOf events) no-tick)
+nothing-taken (status word ∷ events) no-tick no-status = absurd (cons-ne-nil word (statusesOf events) no-status)
+
+invented-counts : (ticks statuses calls : ℕ) → Invented ticks statuses calls → ⊥
+invented-counts ticks statuses calls holds =
+    let none = holds (frameA []) (table .a-is-accepted) [] [] (replicate 4 0) (omega arith) .used in
+    let ten = holds (frameA []) (table .a-is-accepted) tenTicks (0 ∷ 0 ∷ 0 ∷ 0 ∷ 0 ∷ []) (replicate 64 0) (omega arith) in
+    let no-tick : ticks ≡ 0 = omega (arith, none .0) in
+    let no-status : statuses ≡ 0 = omega (arith, none .1) in
+    let nothing = nothing-taken (ten .events) (ten .ticks-in-order ∙ ap (λ (n : ℕ). take n tenTicks) no-tick)
+    (ten .statuses-in-order ∙ ap (λ (n : ℕ). take n (0 ∷ 0 ∷ 0 ∷ 0 ∷ 0 ∷ [])) no-status) in
+    let starts = ap (λ (p : Phase). phaseWords p .phase) (start-phase (frameA []) (right-verdict (frameA []) .accepted .0 (table .a-is-accepted))) in
+    elim (ten .to-the-end) [
+      | inl stopped ↦ omega (arith, starts, subst (λ (events : List Event). HasStopped (history (machineOf (frameA [])) events)) nothing stopped)
+      | inr ends ↦ elim ends [ inl waits ↦ omega (arith, waits .1) | inr runs ↦ omega (arith, runs .1) ]
+    ]
+
 pub bad-versions : BadVersions
 bad-versions =
     record {
@@ -124,6 +149,7 @@ bad-versions =
       asks-at-once = λ holds. over-one-tick .1 (holds oneTick (over-one-tick .0));
       starts-running = starts-running;
       runs-on = λ holds. over-one-tick .2 (holds oneTick (over-one-tick .0));
+      invented-counts = invented-counts;
     }
 
 pub one-answer : OneAnswer

@@ -1,10 +1,12 @@
 -- "Try these bad versions" (document 01, "Nothing left to choose"): "a check that refuses every plan, or a lookup that says 0 (demand 2); a machine that
--- never moves, or stops at once (demand 3 ...); a switch that asks for all three calls on the tick and nods through the statuses". Each is written
+-- never moves, or stops at once (demand 3 ...); a switch that asks for all three calls on the tick and nods through the statuses ...; a run with invented counts". Each is written
 -- as a definition, as if code and contract had been changed together, and the demand's own statement does not hold of it; nor of what the
 -- original did, start in Running with no regions programmed and run on after a missed tick. What demand 2 asks of a verdict and of a window
 -- has one answer only.
+use mathlib.Core.List.{List}
 use mathlib.Core.Path.{_≡_}
-use Prim.Native.Nat.{ℕ}
+use Prim.Native.Nat.{ℕ, _+_, _*_, _≤_}
+use lib.ListN.{length}
 use Rattle.refusal.specs.declared.Refusal.the-variants.{Counts}
 use Rattle.refusal.specs.declared.Verdict.{Verdict}
 use Rattle.refusal.specs.declared.Verdict.the-variants.{Refused}
@@ -23,7 +25,10 @@ use Rattle.state.specs.Start.{coldOf}
 use Rattle.history.specs.Reached.{Event, tick, status}
 use Rattle.history.specs.History.{Machine, answerOf}
 use Rattle.demands.specs.Machine.{CheckAccepts, Sentences}
+use Rattle.run.specs.declared.RunAnswer.{RunAnswer}
+use Rattle.run.specs.Run.{runOf, logOf}
 use Rattle.demands.specs.Refusals.{RightVerdict, RightWindow}
+use Rattle.demands.specs.Run.{IsTheMachine}
 
 abbrev pub refusesEvery : Plan → Verdict
 refusesEvery p = Refused Counts
@@ -66,6 +71,16 @@ answerLate p s (status word) = answerOf p s (status word)
 abbrev pub runsOn : Plan → Machine
 runsOn p = record { start = coldOf p; answer = answerLate p }
 
+-- a run with counts of its own
+abbrev pub inventedCounts : (ticks statuses calls : ℕ) → RunAnswer → RunAnswer
+inventedCounts ticks statuses calls r = record { state = r .state; ticks = ticks; statuses = statuses; calls = calls; verdict = r .verdict }
+
+-- whatever they are, some run has others
+abbrev pub Invented : (ticks statuses calls : ℕ) → Type 0
+Invented t s c =
+    (p : Plan) → CheckAccepts p → (ticks statuses log : List ℕ) → 4 + 6 * length ticks ≤ length log
+    → IsTheMachine p ticks statuses log (inventedCounts t s c (runOf p ticks statuses log)) (logOf p ticks statuses log)
+
 pub record BadVersions : Type 0 where
   pub refuses-every-plan : ((p : Plan) → RightVerdict p (refusesEvery p)) → ⊥
   pub lookup-says-0 : ((p : Plan) (t : ℕ) → RightWindow p t (saysZero p t)) → ⊥
@@ -74,6 +89,7 @@ pub record BadVersions : Type 0 where
   pub asks-at-once : ((p : Plan) → CheckAccepts p → Sentences p (asksAtOnce p)) → ⊥
   pub starts-running : (p : Plan) → Sentences p (startsRunning p) → ⊥
   pub runs-on : ((p : Plan) → CheckAccepts p → Sentences p (runsOn p)) → ⊥
+  pub invented-counts : (ticks statuses calls : ℕ) → Invented ticks statuses calls → ⊥
 
 pub record OneAnswer : Type 0 where
   pub verdict : (p : Plan) (v w : Verdict) → RightVerdict p v → RightVerdict p w → v ≡ w

@@ -514,6 +514,8 @@ runs-meet-demand-3 p u32 ok ticks statuses log long =
       stops = all .stops (run .events);
       stays-stopped = all .stays-stopped (run .events);
       runs-or-waits = all .runs-or-waits (run .events);
+      right-tick = all .right-tick (run .events);
+      zero-goes-on = all .zero-goes-on (run .events);
       while-running = all .while-running (run .events);
       calls = the-plans-calls p ok (run .events);
     }

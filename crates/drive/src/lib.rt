@@ -1,9 +1,11 @@
-// A machine that is driven on: each open call is answered with zero, each tick is the due one. bench/main.rs times it.
+// What bench/main.rs times: a machine that is driven on, each open call answered with zero and each tick the due one; and a run.
 ghost use mathlib.Core.Path.{_≡_};
 ghost use Rattle.plan.specs.Plan.{planOf};
+ghost use Rattle.run.specs.Run.{runOf, logOf};
 ghost use Rattle.drive.specs.Drive.{onward, driven};
 use plan::Frame;
 use protocol::Call;
+use run::run;
 use state::Answer;
 use state::State;
 use switch::status;
@@ -39,4 +41,22 @@ pub extern "C" fn shillingnook_driven(
         i += 1;
     }
     answer.state.due
+}
+
+// How many calls a run writes.
+#[no_mangle]
+pub extern "C" fn shillingnook_run(
+    frame: Frame,
+    windows: &[u32],
+    rows: &[u32],
+    ticks: &[u32],
+    statuses: &[u32],
+    log: &mut [u32],
+) -> usize
+    ensures { λ calls.
+        let p = planOf frame (now (windows .entry)) (now (rows .entry)) in
+        ⌜ (calls ≡ runOf p (now (ticks .entry)) (now (statuses .entry)) (now (log .entry)) .calls) × (now (log .exit) ≡ logOf p (now (ticks .entry)) (now (statuses .entry)) (now (log .entry))) ⌝ }
+{
+    let end = run(frame, windows, rows, ticks, statuses, log);
+    end.calls
 }

@@ -63,6 +63,7 @@ use Rattle.run_switch.proofs.run_switch.Reads as run-switch-run-switch
 use Rattle.promise.proofs.of_any_plan.Reads as promise-of-any-plan
 use Rattle.promise.proofs.of_any_state.Reads as promise-of-any-state
 use Rattle.drive.proofs.shillingnook_driven.Reads as drive-shillingnook-driven
+use Rattle.drive.proofs.shillingnook_run.Reads as drive-shillingnook-run
 use Rattle.host.proofs.shillingnook_check.Reads as host-shillingnook-check
 use Rattle.host.proofs.shillingnook_lookup.Reads as host-shillingnook-lookup
 use Rattle.host.proofs.shillingnook_words.Reads as host-shillingnook-words
@@ -242,6 +243,9 @@ promise-of-any-state-one κs xs r r′ ends ends′ e e′ = refl
 pub drive-shillingnook-driven-one : OneAnswer drive-shillingnook-driven.Post
 drive-shillingnook-driven-one κs xs r r′ ends ends′ e e′ = both e e′
 
+pub drive-shillingnook-run-one : OneAnswer drive-shillingnook-run.Post
+drive-shillingnook-run-one κs xs r r′ ends ends′ e e′ = both (e .0) (e′ .0)
+
 pub host-shillingnook-check-one : OneAnswer host-shillingnook-check.Post
 host-shillingnook-check-one κs xs r r′ ends ends′ e e′ = both e e′
 
@@ -257,6 +261,9 @@ log-put-call-log κs xs r r′ ends ends′ e e′ = both (e .1) (e′ .1)
 
 pub run-run-log : OneReading run-run.Post (λ κs r ends. now (ends .1 .1 .1 .1 .1 .0))
 run-run-log κs xs r r′ ends ends′ e e′ = both (e .1) (e′ .1)
+
+pub drive-shillingnook-run-log : OneReading drive-shillingnook-run.Post (λ κs r ends. now (ends .1 .1 .1 .1 .1 .0))
+drive-shillingnook-run-log κs xs r r′ ends ends′ e e′ = both (e .1) (e′ .1)
 
 -- a contract that leaves something to choose does not pass
 pub two-answers : OneAnswer belowTwo → ⊥

@@ -23,7 +23,8 @@ pub struct RunAnswer {
     pub verdict: Verdict,
 }
 
-// How far a run is: the state and the call of the last answer, how many ticks and statuses were taken, and whether one was taken last.
+// How far a run is: the state and the call of the last answer, how many ticks and statuses were taken, and whether one was taken last. It is public for the
+// theorems on runs; no function outside takes one.
 pub struct Course {
     pub state: State,
     pub call: Call,
