@@ -27,14 +27,13 @@ use Rattle.guard.specs.Guard.{placedAt, fitsAt, stateVerdict, guardOf}
 use Rattle.state.specs.Start.{coldMove, ifAccepted, coldOf}
 use Rattle.switch.specs.Step.{tickTaken, tickAt, tickIn, tickMove, zeroAt, replyAt, statusAt, statusIn, statusMove}
 use Rattle.switch.specs.Machine.{tickOf, statusVerdict, statusOf}
-use Rattle.history.specs.Reached.{Event, tick, status}
+use Rattle.history.specs.Reached.{Event, tick, status, ticksOf, statusesOf}
 use Rattle.history.specs.History.{Entry, called, answered, machineOf, history}
 use Rattle.history.proofs.HistoryLaws.{start-phase}
 use Rattle.demands.specs.Machine.{CheckAccepts, phaseNumber, HasStopped, Fault, FirstFault, Sentences}
 use Rattle.demands.specs.Refusals.{RightVerdict, RightWindow}
-use Rattle.demands.specs.Run.{ticksOf, statusesOf}
 use Rattle.cases.specs.Cases.{four, frameA, tenTicks}
-use Rattle.cases.specs.BadVersions.{refusesEvery, saysZero, neverMoves, stopsAtOnce, asksAtOnce, startsRunning, runsOn, Invented, BadVersions, OneAnswer}
+use Rattle.cases.specs.BadVersions.{refusesEvery, saysZero, neverMoves, stopsAtOnce, asksAtOnce, startsRunning, runsOn, Invented, BadVersions, OneRightAnswer}
 use Rattle.cases.proofs.Cases.{table}
 use Rattle.demands.proofs.Refusals.{right-verdict}
 
@@ -152,8 +151,8 @@ bad-versions =
       invented-counts = invented-counts;
     }
 
-pub one-answer : OneAnswer
-one-answer =
+pub one-right-answer : OneRightAnswer
+one-right-answer =
     record {
       verdict = λ p v w right also. of p v w right also;
       window = λ p t l m right also. located-once p t l m right also;

@@ -91,6 +91,6 @@ pub record BadVersions : Type 0 where
   pub runs-on : ((p : Plan) → CheckAccepts p → Sentences p (runsOn p)) → ⊥
   pub invented-counts : (ticks statuses calls : ℕ) → Invented ticks statuses calls → ⊥
 
-pub record OneAnswer : Type 0 where
+pub record OneRightAnswer : Type 0 where
   pub verdict : (p : Plan) (v w : Verdict) → RightVerdict p v → RightVerdict p w → v ≡ w
   pub window : (p : Plan) (t : ℕ) (l m : Located) → RightWindow p t l → RightWindow p t m → l ≡ m

@@ -85,11 +85,11 @@ kept-words Resume (tick t) = refl
 kept-words Resume (status word) = refl
 
 -- the call of a phase
-abbrev callAt : Plan → History → Stage → CallWords
-callAt p h Running = noCall
-callAt p h SaveCtx = saveFor (owner (p .windows) (h .state .current) .0)
-callAt p h ProgramRegions = swapFor (owner (p .windows) (h .state .target) .0)
-callAt p h Resume = resumeFor (owner (p .windows) (h .state .target) .0)
+abbrev awaited : Plan → History → Stage → CallWords
+awaited p h Running = noCall
+awaited p h SaveCtx = saveFor (owner (p .windows) (h .state .current) .0)
+awaited p h ProgramRegions = swapFor (owner (p .windows) (h .state .target) .0)
+awaited p h Resume = resumeFor (owner (p .windows) (h .state .target) .0)
 
 apart : {c d : CallWords} → c ≡ d → c .number ≡ d .number
 apart e = ap (λ (c : CallWords). c .number) e
@@ -113,7 +113,7 @@ module _ (p : Plan) (a : plan.AcceptedIf p) where
     is-going e stop = true≢false (sym stop ∙ ap isStopped e)
 
     -- the call that is open, by the phase
-    open-call : (stage : Stage) → h .state .phase ≡ At stage → openCall (h .entries) ≡ callAt p h stage
+    open-call : (stage : Stage) → h .state .phase ≡ At stage → openCall (h .entries) ≡ awaited p h stage
     open-call Running e = ap openCall (talks (At Running) e .1)
     open-call SaveCtx e = ap openCall (talks (At SaveCtx) e .1)
     open-call ProgramRegions e = ap openCall (talks (At ProgramRegions) e .1)

@@ -36,21 +36,21 @@ use Rattle.state.specs.declared.State.{State}
 use Rattle.state.specs.declared.Answer.{Answer}
 use Rattle.state.specs.Start.{coldMove}
 use Rattle.switch.specs.Step.{timetableOf}
-use Rattle.history.specs.Reached.{Event, tick, status}
+use Rattle.history.specs.Reached.{Event, tick, status, ticksOf, statusesOf}
 use Rattle.history.specs.History.{Machine, machineOf, Entry, History, answerOf, counted, goOn, heard, said, next, since, history}
 use Rattle.history.specs.Cases.{TickCase, window-goes-on, window-ends, wrong-tick, tick-in-a-switch, tick-too-late, StatusCase, saved, programmed, runs-again, bad-status, status-unasked-for, status-too-late}
-use Rattle.history.specs.Calls.{callAt, firstCalls, callsIn, callCount, endedAfter, ticksIn}
+use Rattle.history.specs.Calls.{callAt, firstCalls, callsIn, callCount, endedAfter}
 use Rattle.history.proofs.Cases.{tick-case, status-case}
 use Rattle.history.proofs.Answers.{too-late, on-tick, on-status, unasked}
 use Rattle.history.proofs.HistoryLaws.{Inv, since-on, start-is, history-inv}
 use Rattle.history.proofs.CallLaws.{call-swap, calls-are-the-plans, calls-at-most, length-first}
 use Rattle.guard.proofs.FitsLaws.{Fits}
-use Rattle.demands.specs.Machine.{HasStopped, Open}
+use Rattle.demands.specs.Machine.{HasStopped, Open, Sentences}
 use Rattle.run.specs.declared.Course.{Course}
 use Rattle.run.specs.declared.RunAnswer.{RunAnswer}
 use Rattle.run.proofs.RunLaws.{no-tick, takes-tick, no-status, takes-status, turn-stopped, turn-open, turn-quiet, one-turn-fewer, one-turn-more, all-done, plan-first, then-16, runs-refused, runs-whole, let-in}
-use Rattle.run.specs.Run.{endOfRun, took, turn, Progress, progress, goOn as goOnRun, left, ended, runVerdict, coldCourse, whole, runOf, logOf}
-use Rattle.demands.specs.Run.{ticksOf, statusesOf, Next, ByTheRule, AtTheEnd, stoppingTick, IsTheMachine, RunsAreTheMachine, RunsMeetDemand3, RunRefused, RefusedRuns}
+use Rattle.run.specs.Run.{endOfRun, took, turn, Progress, progress, withLogged, goOn as goOnRun, left, ended, runVerdict, coldCourse, whole, runOf, logOf}
+use Rattle.demands.specs.Run.{Next, ByTheRule, AtTheEnd, stoppingTick, IsTheMachine, RunsAreTheMachine, SentencesAt, RunsMeetDemand3, RunRefused, RefusedRuns}
 use Rattle.demands.proofs.Machine.{accepts, stopped-number, not-open, is-open, demand-3}
 use Rattle.demands.proofs.Refusals.{told, accepted}
 use Rattle.demands.proofs.Calls.{the-plans-calls}
@@ -115,11 +115,6 @@ statuses-more : (events : List Event) (e : Event) → statusesOf (events ++ (e �
 statuses-more [] e = refl
 statuses-more (tick t ∷ events) e = statuses-more events e
 statuses-more (status word ∷ events) e = ap (λ (l : List ℕ). word ∷ l) (statuses-more events e)
-
-ticks-counted : (events : List Event) → ticksIn events ≡ length (ticksOf events)
-ticks-counted [] = refl
-ticks-counted (tick t ∷ events) = ap suc (ticks-counted events)
-ticks-counted (status word ∷ events) = ticks-counted events
 
 rule-more : (m : Machine) (h : History) (events : List Event) (e : Event) → ByTheRule m h events → Next (since m h events) e → ByTheRule m h (events ++ (e ∷ []))
 rule-more m h [] e rule due = (due, tt)
@@ -203,7 +198,7 @@ module _ (p : Plan) (a : plan.AcceptedIf p) (ticks statuses log₀ : List ℕ) (
     call = g .course .call
 
     abbrev after : Progress
-    after = progress (g .course) (callsLogged (g .log) (g .calls) call) (logged (g .log) (g .calls) call)
+    after = withLogged g (g .course)
 
     with-log : length (callsIn (H events .entries)) ≡ after .calls + 0 → after .log ≡ callLog (callAt p) (after .calls) ++ drop (after .calls * 2) log₀
         → length (after .log) ≡ length log₀ → Tracks after 0 events
@@ -227,7 +222,7 @@ module _ (p : Plan) (a : plan.AcceptedIf p) (ticks statuses log₀ : List ℕ) (
         omega (
           arith,
           calls-at-most p a events,
-          ticks-counted events ∙ ap length (t .ticks-in-order) ∙ length-take-le (g .course .ticks) ticks (t .ticks-used),
+          ap length (t .ticks-in-order) ∙ length-take-le (g .course .ticks) ticks (t .ticks-used),
           t .ticks-used,
         )
 
@@ -410,10 +405,6 @@ module _ (p : Plan) (a : plan.AcceptedIf p) (ticks statuses log₀ : List ℕ) (
     tracks : Tracks g 0 events
     to-the-end : AtTheEnd ticks statuses (H events) (ended g)
 
-  -- with the last call in the log
-  abbrev withLogged : Progress → Course → Progress
-  withLogged g c = progress c (callsLogged (g .log) (g .calls) (g .course .call)) (logged (g .log) (g .calls) (g .course .call))
-
   finish : (turns : ℕ) (g : Progress) (events : List Event) → Tracks g (cond (asks (g .course .call)) 1 0) events → NextCall g → g .course .going ≡ true
       → left ticks statuses (g .course) ≤ turns → Finished (goOnRun p ticks statuses turns g)
   finish zero g events t its goes enough = absurd (omega (arith, one-turn-fewer p ticks statuses (g .course) goes, enough))
@@ -505,20 +496,21 @@ runs-are-the-machine p ok ticks statuses log long =
     subst (λ (x : RunAnswer). IsTheMachine p ticks statuses log x (logOf p ticks statuses log)) (sym (r .0))
     (subst (IsTheMachine p ticks statuses log (ended (whole p ticks statuses log))) (sym (r .1)) (answer p a ticks statuses log long))
 
+sentences-at : (p : Plan) → Sentences p (machineOf p) → (events : List Event) → SentencesAt p (machineOf p) events
+sentences-at p all events =
+    record {
+      stops = all .stops events;
+      stays-stopped = all .stays-stopped events;
+      runs-or-waits = all .runs-or-waits events;
+      right-tick = all .right-tick events;
+      zero-goes-on = all .zero-goes-on events;
+      while-running = all .while-running events;
+    }
+
 pub runs-meet-demand-3 : RunsMeetDemand3
 runs-meet-demand-3 p u32 ok ticks statuses log long =
     let run = runs-are-the-machine p ok ticks statuses log long in
-    let all = demand-3 p u32 ok in
-    record {
-      run = run;
-      stops = all .stops (run .events);
-      stays-stopped = all .stays-stopped (run .events);
-      runs-or-waits = all .runs-or-waits (run .events);
-      right-tick = all .right-tick (run .events);
-      zero-goes-on = all .zero-goes-on (run .events);
-      while-running = all .while-running (run .events);
-      calls = the-plans-calls p ok (run .events);
-    }
+    record { run = run; holds = sentences-at p (demand-3 p u32 ok) (run .events); calls = the-plans-calls p ok (run .events) }
 
 -- a refused run
 refused-as : (p : Plan) (ticks statuses log : List ℕ) (r : Refusal) → runVerdict p ticks log ≡ Refused r

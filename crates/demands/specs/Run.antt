@@ -18,19 +18,9 @@ use Rattle.run.specs.Run.{runOf, logOf}
 use Rattle.history.specs.Reached.{Event, tick, status}
 use Rattle.history.specs.History.{Machine, machineOf, History, next, history}
 use Rattle.history.specs.Calls.{callAt, callsIn}
+use Rattle.history.specs.Reached.{ticksOf, statusesOf}
 use Rattle.demands.specs.Machine.{CheckAccepts, Runs, HasStopped, Open, StopsExactly, StaysStopped, RunsOrWaits, RightTick, ZeroGoesOn, WhileRunning}
 use Rattle.demands.specs.Calls.{CallsTold}
-
--- the ticks and the statuses among events, in their order
-abbrev pub ticksOf : List Event → List ℕ
-ticksOf [] = []
-ticksOf (tick t ∷ events) = t ∷ ticksOf events
-ticksOf (status word ∷ events) = ticksOf events
-
-abbrev pub statusesOf : List Event → List ℕ
-statusesOf [] = []
-statusesOf (tick t ∷ events) = statusesOf events
-statusesOf (status word ∷ events) = word ∷ statusesOf events
 
 -- "the next status if, and only if, the last answer left a call open, else the next tick"; nothing once it is stopped
 abbrev pub Next : History → Event → Type 0
@@ -75,16 +65,19 @@ RunsAreTheMachine =
     (p : Plan) → CheckAccepts p → (ticks statuses log : List ℕ) → 4 + 6 * length ticks ≤ length log
     → IsTheMachine p ticks statuses log (runOf p ticks statuses log) (logOf p ticks statuses log)
 
--- so every sentence of demand 3 on events holds of a run, at the events that it took: the machine stops exactly as it should, stays stopped, and runs or
--- waits; the right tick and a zero lead on; while it runs its window is the only one that holds N modulo the frame length; and its calls are the plan's
+-- the sentences of demand 3 on events, of a machine after some of them
+pub record SentencesAt (p : Plan) (m : Machine) (events : List Event) : Type 0 where
+  pub stops : StopsExactly p m events
+  pub stays-stopped : HasStopped (history m events) → StaysStopped m events
+  pub runs-or-waits : (HasStopped (history m events) → ⊥) → RunsOrWaits (history m events)
+  pub right-tick : Runs (history m events) → RightTick p m (history m events)
+  pub zero-goes-on : (HasStopped (history m events) → ⊥) → ZeroGoesOn p m (history m events)
+  pub while-running : Runs (history m events) → WhileRunning p (history m events)
+
+-- they hold of a run, at the events that it took; and its calls are the plan's
 pub record RunMeetsDemand3 (p : Plan) (ticks statuses log : List ℕ) : Type 0 where
   pub run : IsTheMachine p ticks statuses log (runOf p ticks statuses log) (logOf p ticks statuses log)
-  pub stops : StopsExactly p (machineOf p) (run .events)
-  pub stays-stopped : HasStopped (history (machineOf p) (run .events)) → StaysStopped (machineOf p) (run .events)
-  pub runs-or-waits : (HasStopped (history (machineOf p) (run .events)) → ⊥) → RunsOrWaits (history (machineOf p) (run .events))
-  pub right-tick : Runs (history (machineOf p) (run .events)) → RightTick p (machineOf p) (history (machineOf p) (run .events))
-  pub zero-goes-on : (HasStopped (history (machineOf p) (run .events)) → ⊥) → ZeroGoesOn p (machineOf p) (history (machineOf p) (run .events))
-  pub while-running : Runs (history (machineOf p) (run .events)) → WhileRunning p (history (machineOf p) (run .events))
+  pub holds : SentencesAt p (machineOf p) (run .events)
   pub calls : CallsTold p (machineOf p) (run .events)
 
 abbrev pub RunsMeetDemand3 : Type 0

@@ -28,10 +28,10 @@ use Rattle.protocol.specs.Phase.{isStopped}
 use Rattle.state.specs.declared.Answer.{Answer}
 use Rattle.state.specs.Start.{coldOf}
 use Rattle.switch.specs.Step.{timetableOf}
-use Rattle.history.specs.Reached.{Event, tick, status}
+use Rattle.history.specs.Reached.{Event, tick, status, ticksOf}
 use Rattle.history.specs.History.{Machine, answerOf, machineOf, History, counted, begin, goOn, next, since, history}
 use Rattle.history.specs.Cases.{TickCase, window-goes-on, window-ends, wrong-tick, tick-in-a-switch, tick-too-late, StatusCase, saved, programmed, runs-again, bad-status, status-unasked-for, status-too-late}
-use Rattle.history.specs.Calls.{ownerAfter, turnCall, callAt, firstCalls, callsIn, endedAfter, callCount, CallsAreThePlans, ticksIn}
+use Rattle.history.specs.Calls.{ownerAfter, turnCall, callAt, firstCalls, callsIn, endedAfter, callCount, CallsAreThePlans}
 use Rattle.guard.proofs.FitsLaws.{InWindow, FitsPhase}
 use Rattle.history.proofs.Cases.{tick-case, status-case}
 use Rattle.history.proofs.Preserved.{arrives}
@@ -61,19 +61,19 @@ module _ (p : Plan) (s : ℕ) where
       let which : (3 * s + 2) % 3 ≡ 2 = omega arith in
       λ k. turnCall (ownerAfter p (third k)) (which k)
 
-one-call-more : (p : Plan) (m n : ℕ) → n ≡ m + 1 → firstCalls p n ≡ callAt p m ∷ firstCalls p m
+one-more-first : (p : Plan) (m n : ℕ) → n ≡ m + 1 → firstCalls p n ≡ callAt p m ∷ firstCalls p m
 unfolding firstCalls
-one-call-more p m n e = rw (e, add-one m)
+one-more-first p m n e = rw (e, add-one m)
 
 module _ (p : Plan) (s : ℕ) where
   then-swap : firstCalls p (callCount 2 s) ≡ swapFor (ownerAfter p s) ∷ firstCalls p (callCount 1 s)
-  then-swap = one-call-more p (3 * s) (3 * s + 1) refl ∙ ap (λ (c : CallWords). c ∷ firstCalls p (3 * s)) (call-swap p s)
+  then-swap = one-more-first p (3 * s) (3 * s + 1) refl ∙ ap (λ (c : CallWords). c ∷ firstCalls p (3 * s)) (call-swap p s)
 
   then-resume : firstCalls p (callCount 3 s) ≡ resumeFor (ownerAfter p s) ∷ firstCalls p (callCount 2 s)
-  then-resume = one-call-more p (3 * s + 1) (3 * s + 2) (omega arith) ∙ ap (λ (c : CallWords). c ∷ firstCalls p (3 * s + 1)) (call-resume p s)
+  then-resume = one-more-first p (3 * s + 1) (3 * s + 2) (omega arith) ∙ ap (λ (c : CallWords). c ∷ firstCalls p (3 * s + 1)) (call-resume p s)
 
   then-save : firstCalls p (callCount 1 (s + 1)) ≡ saveFor (ownerAfter p s) ∷ firstCalls p (callCount 0 s)
-  then-save = one-call-more p (3 * s + 2) (3 * (s + 1)) (omega arith) ∙ ap (λ (c : CallWords). c ∷ firstCalls p (3 * s + 2)) (call-save p s)
+  then-save = one-more-first p (3 * s + 2) (3 * (s + 1)) (omega arith) ∙ ap (λ (c : CallWords). c ∷ firstCalls p (3 * s + 2)) (call-save p s)
 
 pub length-first : (p : Plan) (m : ℕ) → length (firstCalls p m) ≡ m
 unfolding firstCalls
@@ -172,7 +172,7 @@ counted-at-most t Accepted true N = omega arith
 counted-at-most t Accepted false N = omega arith
 counted-at-most t (Refused r) stops N = omega arith
 
-taken-at-most : (m : Machine) (h : History) (events : List Event) → since m h events .taken ≤ h .taken + ticksIn events
+taken-at-most : (m : Machine) (h : History) (events : List Event) → since m h events .taken ≤ h .taken + length (ticksOf events)
 taken-at-most m h [] = omega arith
 taken-at-most m h (tick t ∷ events) =
     let a = m .answer (h .state) (tick t) in
@@ -187,7 +187,7 @@ count-at-most (suc (suc (suc stage))) s = omega arith
 
 -- so k ticks have brought at most 2 + 3k calls
 pub calls-at-most : (p : Plan) → plan.AcceptedIf p → (events : List Event)
-    → length (callsIn (history (machineOf p) events .entries)) ≤ 2 + 3 * ticksIn events
+    → length (callsIn (history (machineOf p) events .entries)) ≤ 2 + 3 * length (ticksOf events)
 calls-at-most p a events =
     let h = history (machineOf p) events in
     let stage = phaseWords (h .state .phase) .stage in

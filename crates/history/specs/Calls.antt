@@ -7,7 +7,6 @@ use Rattle.timeline.specs.Windows.{windowsEnded}
 use Rattle.plan.specs.Plan.{Plan, frameLength, windowCount, ownerOf, offsetOf, budgetOf}
 use Rattle.protocol.specs.declared.CallWords.{CallWords}
 use Rattle.protocol.specs.Numbers.{saveFor, swapFor, resumeFor, phaseWords}
-use Rattle.history.specs.Reached.{Event, tick, status}
 use Rattle.history.specs.History.{Entry, called, answered, History}
 
 -- the owner of the window whose turn comes after so many windows: after the last it is window 0's again
@@ -48,9 +47,3 @@ callCount (suc (suc (suc stage))) windows = 3 * windows + 2
 -- the calls so far are the first m, m by the phase and N
 abbrev pub CallsAreThePlans : Plan → History → Type 0
 CallsAreThePlans p h = callsIn (h .entries) ≡ firstCalls p (callCount (phaseWords (h .state .phase) .stage) (endedAfter p (h .taken)))
-
--- how many of the events are ticks
-abbrev pub ticksIn : List Event → ℕ
-ticksIn [] = 0
-ticksIn (tick t ∷ events) = suc (ticksIn events)
-ticksIn (status word ∷ events) = ticksIn events

@@ -24,6 +24,17 @@ leads p s (e ∷ events) = leads p (moveOf p s e .state) events
 abbrev pub Reached : Plan → State → Type 0
 Reached p s = (events : List Event) × (leads p (coldMove (p .windows) .state) events ≡ s)
 
+-- the ticks and the statuses among events, in their order
+abbrev pub ticksOf : List Event → List ℕ
+ticksOf [] = []
+ticksOf (tick t ∷ events) = t ∷ ticksOf events
+ticksOf (status word ∷ events) = ticksOf events
+
+abbrev pub statusesOf : List Event → List ℕ
+statusesOf [] = []
+statusesOf (tick t ∷ events) = statusesOf events
+statusesOf (status word ∷ events) = word ∷ statusesOf events
+
 abbrev pub wordOf : Event → ℕ
 wordOf (tick t) = t
 wordOf (status word) = word

@@ -2,16 +2,20 @@
 -- Assumes nothing.
 use mathlib.Core.Bool.{Bool, true, false, cond, _&&_, and-false}
 use mathlib.Core.List.{List, [], _∷_, _++_, append-assoc}
+use mathlib.Core.Logic.{_⊎_, ⊎-elim}
 use mathlib.Core.Path.{_≡_, refl, sym, ap, _∙_}
 use Prim.Native.Nat.{ℕ, zero, suc, _+_, _*_, _-_, _/_, _≤_, _<_}
 use native.Mathlib.Numerals.{add-one}
 use native.Mathlib.Decide.{decLt}
 use native.Mathlib.Omega.{arith}
 use borrow.Author.Tests.{lt-ltb, le-ltb}
+use denote.Enum.Declared.{tagOf}
 use lib.Dec.{ltb}
 use lib.ListN.{length, getD, set, drop, length-append}
 use lib.Seq.{drop-cons, set-at}
+use Rattle.protocol.proofs.Call.{the-type}
 use Rattle.protocol.specs.declared.Call.{Call}
+use Rattle.protocol.specs.declared.Call.the-variants.{None, SaveFor, SwapFor, ResumeFor}
 use Rattle.protocol.specs.declared.CallWords.{CallWords}
 use Rattle.log.specs.Log.{tooShort, asks, goesIn, withCall, logged, callsLogged, callLog}
 
@@ -33,6 +37,13 @@ by-sixths words ticks enough =
       | yes short ↦ lt-ltb ((words - 4) / 6) ticks (omega arith) ∙ sym (lt-ltb words (4 + 6 * ticks) short)
       | no long ↦ le-ltb ((words - 4) / 6) ticks (omega arith) ∙ sym (le-ltb words (4 + 6 * ticks) (omega arith))
     ]
+
+-- a call that is told apart from `None` by its tag
+pub asked : (call : Call) → let tag = tagOf the-type call in (tag ≡ 1) ⊎ ((tag ≡ 2) ⊎ (tag ≡ 3)) → asks call ≡ true
+asked None k = absurd (⊎-elim (λ e. omega arith) (⊎-elim (λ e. omega arith) (λ e. omega arith)) k)
+asked (SaveFor q) k = refl
+asked (SwapFor q) k = refl
+asked (ResumeFor q) k = refl
 
 module _ (log : List ℕ) (calls : ℕ) (call : Call) where
   pub no-room : length log / 2 ≤ calls → goesIn log calls call ≡ false

@@ -5,7 +5,7 @@ use mathlib.Core.Path.{_≡_, refl, sym, _∙_}
 use Prim.Native.Nat.{ℕ}
 use native.Mathlib.Omega.{arith}
 use denote.Ref.{now}
-use Rattle.one_answer.specs.One.{OneAnswer, OneReading, belowTwo}
+use Rattle.one_answer.specs.One.{OneAnswer, OneReading, belowTwo, silentAtExit}
 use Rattle.refusal.proofs.number.Reads as refusal-number
 use Rattle.refusal.proofs.place.Reads as refusal-place
 use Rattle.refusal.proofs.host_code.Reads as refusal-host-code
@@ -268,3 +268,6 @@ drive-shillingnook-run-log κs xs r r′ ends ends′ e e′ = both (e .1) (e′
 -- a contract that leaves something to choose does not pass
 pub two-answers : OneAnswer belowTwo → ⊥
 two-answers one = let same : _≡_ {A = ℕ} 0 1 = one tt tt 0 1 tt tt (omega arith) (omega arith) in omega arith
+
+pub two-readings : OneReading silentAtExit (λ κs r ends. ends) → ⊥
+two-readings one = let same : _≡_ {A = ℕ} 0 1 = one tt tt 0 0 0 1 refl refl in omega arith

@@ -19,3 +19,7 @@ module _ {Lifetimes : Type 0} {Arguments Result AtExit : Lifetimes → Type 0} (
 -- a contract that leaves something to choose is none of them: a number below 2 can be 0 or 1
 abbrev pub belowTwo : (κs arguments : Unit {0}) → ℕ → (ends : Unit {0}) → Type 0
 belowTwo κs arguments r ends = r < 2
+
+-- and one that says nothing of what was lent does not fix what is read there
+abbrev pub silentAtExit : (κs arguments : Unit {0}) → ℕ → (ends : ℕ) → Type 0
+silentAtExit κs arguments r ends = r ≡ 0

@@ -27,23 +27,23 @@ use Rattle.run.specs.declared.Course.{Course}
 use Rattle.run.specs.Run.{endOfRun, took, tickTurn, statusTurn, turn, Progress, onward, goOn, left, ended, refusedRun, runVerdict, whole, runOf, logOf}
 
 module _ (p : Plan) (c : Course) where
-  pub no-tick : (ticks : List ℕ) → length ticks ≤ c .ticks → tickTurn p ticks c ≡ endOfRun c
-  unfolding tickTurn
-  no-tick ticks none = chosen _ _ (le-leb _ _ none)
-
   pub takes-tick : (ticks : List ℕ) → c .ticks < length ticks
       → tickTurn p ticks c ≡ took (tickOf p (c .state) (getD ticks (c .ticks) 0)) (c .ticks + 1) (c .statuses)
   unfolding tickTurn
   takes-tick ticks some = passed _ _ (lt-leb _ _ some)
 
-  pub no-status : (statuses : List ℕ) → length statuses ≤ c .statuses → statusTurn p statuses c ≡ endOfRun c
-  unfolding statusTurn
-  no-status statuses none = chosen _ _ (le-leb _ _ none)
+  pub no-tick : (ticks : List ℕ) → length ticks ≤ c .ticks → tickTurn p ticks c ≡ endOfRun c
+  unfolding tickTurn
+  no-tick ticks none = chosen _ _ (le-leb _ _ none)
 
   pub takes-status : (statuses : List ℕ) → c .statuses < length statuses
       → statusTurn p statuses c ≡ took (statusOf p (c .state) (getD statuses (c .statuses) 0)) (c .ticks) (c .statuses + 1)
   unfolding statusTurn
   takes-status statuses some = passed _ _ (lt-leb _ _ some)
+
+  pub no-status : (statuses : List ℕ) → length statuses ≤ c .statuses → statusTurn p statuses c ≡ endOfRun c
+  unfolding statusTurn
+  no-status statuses none = chosen _ _ (le-leb _ _ none)
 
 module _ (p : Plan) (ticks statuses : List ℕ) (c : Course) where
   pub turn-stopped : isStopped (c .state .phase) ≡ true → turn p ticks statuses c ≡ endOfRun c

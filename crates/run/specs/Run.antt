@@ -52,11 +52,15 @@ pub record Progress : Type 0 where
 abbrev pub progress : Course → (calls : ℕ) → (log : List ℕ) → Progress
 progress course calls log = record { course = course; calls = calls; log = log }
 
--- the call of the last answer goes into the log, then the next turn is taken
-abbrev pub onward : Plan → (ticks statuses : List ℕ) → Progress → Progress
-onward p ticks statuses g =
+-- at another course, with the call of the last answer in the log
+abbrev pub withLogged : Progress → Course → Progress
+withLogged g c =
     let call = g .course .call in
-    progress (turn p ticks statuses (g .course)) (callsLogged (g .log) (g .calls) call) (logged (g .log) (g .calls) call)
+    progress c (callsLogged (g .log) (g .calls) call) (logged (g .log) (g .calls) call)
+
+-- the call goes into the log, then the next turn is taken
+abbrev pub onward : Plan → (ticks statuses : List ℕ) → Progress → Progress
+onward p ticks statuses g = withLogged g (turn p ticks statuses (g .course))
 
 -- while something is taken, but not more often than so
 unfoldable pub goOn : Plan → (ticks statuses : List ℕ) → (turns : ℕ) → Progress → Progress

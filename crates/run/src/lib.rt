@@ -2,7 +2,7 @@
 // a later one's.
 ghost use mathlib.Core.Path.{_≡_};
 ghost use Rattle.plan.specs.Plan.{planOf};
-ghost use Rattle.run.specs.Run.{endOfRun, tickTurn, statusTurn, turn, progress, goOn, left, ended, refusedRun, runOf, logOf};
+ghost use Rattle.run.specs.Run.{endOfRun, took, tickTurn, statusTurn, turn, progress, goOn, left, ended, refusedRun, runOf, logOf};
 use log::put_call;
 use log::too_short;
 use plan::Frame;
@@ -10,6 +10,7 @@ use protocol::Call;
 use protocol::Phase;
 use refusal::Refusal;
 use refusal::Verdict;
+use state::Answer;
 use state::State;
 use switch::status;
 use switch::tick;
@@ -48,6 +49,21 @@ fn end_of_run(course: Course) -> Course
     }
 }
 
+// A tick or a status was taken.
+fn took(answer: Answer, ticks: usize, statuses: usize) -> Course
+    ensures { λ c. ⌜ c ≡ took answer ticks statuses ⌝ }
+{
+    let state = answer.state;
+    let call = answer.call;
+    Course {
+        state,
+        call,
+        ticks,
+        statuses,
+        going: true,
+    }
+}
+
 fn tick_turn(course: Course, frame: Frame, windows: &[u32], rows: &[u32], ticks: &[u32]) -> Course
     ensures { λ c. ⌜ c ≡ tickTurn (planOf frame (now (windows .entry)) (now (rows .entry))) (now (ticks .entry)) course ⌝ }
 {
@@ -56,15 +72,7 @@ fn tick_turn(course: Course, frame: Frame, windows: &[u32], rows: &[u32], ticks:
         return end_of_run(course);
     }
     let answer = tick(course.state, frame, windows, rows, ticks[i]);
-    let state = answer.state;
-    let call = answer.call;
-    Course {
-        state,
-        call,
-        ticks: i + 1,
-        statuses: course.statuses,
-        going: true,
-    }
+    took(answer, i + 1, course.statuses)
 }
 
 fn status_turn(
@@ -81,15 +89,7 @@ fn status_turn(
         return end_of_run(course);
     }
     let answer = status(course.state, frame, windows, rows, statuses[j]);
-    let state = answer.state;
-    let call = answer.call;
-    Course {
-        state,
-        call,
-        ticks: course.ticks,
-        statuses: j + 1,
-        going: true,
-    }
+    took(answer, course.ticks, j + 1)
 }
 
 // The next status if the last answer left a call open, else the next tick; nothing once it is stopped.
@@ -181,14 +181,6 @@ pub fn run(
     if too_short(log.len(), ticks.len()) {
         return refused_run(Verdict::Refused(Refusal::LogTooShort));
     }
-    let state = start.state;
-    let call = start.call;
-    let course = Course {
-        state,
-        call,
-        ticks: 0,
-        statuses: 0,
-        going: true,
-    };
+    let course = took(start, 0, 0);
     go_on(course, frame, windows, rows, ticks, statuses, log)
 }

@@ -1,32 +1,21 @@
 -- `put_call` meets its contract: with no call or no room nothing changes, else the two words stand after the others.
 -- Assumes nothing.
-use mathlib.Core.Bool.{true, _&&_}
-use mathlib.Core.Logic.{_⊎_, ⊎-elim}
-use mathlib.Core.Path.{_≡_, refl, sym, ap, _∙_}
+use mathlib.Core.Bool.{_&&_}
+use mathlib.Core.Path.{sym, ap, _∙_}
 use Prim.Native.Nat.{_+_, _*_, _/_}
 use native.Mathlib.Omega.{arith}
 use borrow.Author.Needs.{needs}
-use denote.Enum.Declared.{tagOf}
 use lib.Dec.{ltb}
 use lib.ListN.{length, set, length-set}
-use Rattle.protocol.proofs.Call.{the-type}
 use Rattle.protocol.specs.declared.Call.{Call}
-use Rattle.protocol.specs.declared.Call.the-variants.{None, SaveFor, SwapFor, ResumeFor}
 use Rattle.protocol.specs.declared.CallWords.{CallWords}
 use Rattle.log.specs.Log.{asks}
-use Rattle.log.proofs.LogLaws.{no-room, stays, grows}
+use Rattle.log.proofs.LogLaws.{asked, no-room, stays, grows}
 use Rattle.log.proofs.put_call.Statement.{statement}
 use Rattle.log.proofs.put_call.Tie as tie
 
 enum-told : tie.Need-enum-told
 enum-told c = search needs
-
--- past the first test there is a call
-asked : (call : Call) → let tag = tagOf the-type call in (tag ≡ 1) ⊎ ((tag ≡ 2) ⊎ (tag ≡ 3)) → asks call ≡ true
-asked None k = absurd (⊎-elim (λ e. omega arith) (⊎-elim (λ e. omega arith) (λ e. omega arith)) k)
-asked (SaveFor q) k = refl
-asked (SwapFor q) k = refl
-asked (ResumeFor q) k = refl
 
 returns : tie.Need-returns
 returns c =

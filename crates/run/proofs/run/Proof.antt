@@ -54,6 +54,9 @@ returns-2 c =
     let r = runs-refused (plan start) _ _ _ _ (then-16 (plan start) _ _ (accepted (c .before .before .before)) (sym (c .before .before .too-short .ensures) ∙ c .before .if1 .taken)) in
     (c .refused-run2 .ensures ∙ sym (r .0), sym (r .1))
 
+took-requires : tie.Need-took-requires
+took-requires c κs = search needs
+
 go-on-requires : tie.Need-go-on-requires
 go-on-requires c κs = search needs
 
@@ -68,7 +71,7 @@ returns-3 c =
     let ticks = start .args .ticks .now in
     let statuses = start .args .statuses .now in
     let log = start .args .log .now in
-    let cold = ap (λ (a : Answer). took a 0 0) (told .before .before .cold-start .ensures ∙ cold-accepted p (accepted told)) in
+    let cold = c .before .before .before .before .took .ensures ∙ ap (λ (a : Answer). took a 0 0) (told .before .before .cold-start .ensures ∙ cold-accepted p (accepted told)) in
     let same = ap (λ (x : Course). goOn p ticks statuses (left ticks statuses x) (progress x 0 log)) cold in
     let long = sym (c .before .before .before .before .before .before .too-short .ensures) ∙ c .before .before .before .before .before .if1 .left in
     let r = runs-whole p ticks statuses log (let-in p ticks log (accepted told) long) in
@@ -87,6 +90,7 @@ run-spec =
     too-short-requires
     refused-run-requires-2
     returns-2
+    took-requires
     go-on-requires
     same-length
     returns-3)

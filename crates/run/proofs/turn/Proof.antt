@@ -1,26 +1,14 @@
 -- `turn` meets its contract: a stopped machine takes nothing; else the last answer's call decides.
 -- Assumes nothing.
-use mathlib.Core.Bool.{true}
-use mathlib.Core.Logic.{_⊎_, ⊎-elim}
-use mathlib.Core.Path.{_≡_, refl, sym, ap, _∙_}
-use native.Mathlib.Omega.{arith}
+use mathlib.Core.Path.{sym, ap, _∙_}
 use borrow.Author.Needs.{needs}
-use denote.Enum.Declared.{tagOf}
 use Rattle.protocol.proofs.Call as call
-use Rattle.protocol.specs.declared.Call.{Call}
-use Rattle.protocol.specs.declared.Call.the-variants.{None, SaveFor, SwapFor, ResumeFor}
 use Rattle.protocol.specs.Phase.{isStopped}
 use Rattle.log.specs.Log.{asks}
+use Rattle.log.proofs.LogLaws.{asked}
 use Rattle.run.proofs.RunLaws.{turn-stopped, turn-open, turn-quiet}
 use Rattle.run.proofs.turn.Statement.{statement}
 use Rattle.run.proofs.turn.Tie as tie
-
--- a call that is none of none
-asked : (c : Call) → let tag = tagOf call.the-type c in (tag ≡ 1) ⊎ ((tag ≡ 2) ⊎ (tag ≡ 3)) → asks c ≡ true
-asked None k = absurd (⊎-elim (λ e. omega arith) (⊎-elim (λ e. omega arith) (λ e. omega arith)) k)
-asked (SaveFor q) k = refl
-asked (SwapFor q) k = refl
-asked (ResumeFor q) k = refl
 
 enum-told : tie.Need-enum-told
 enum-told c = search needs
