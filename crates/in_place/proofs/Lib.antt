@@ -1,2 +1,4 @@
-pub mod Mark
+pub mod Lend
+pub mod Marking
+pub mod Ticking
 pub mod Walk

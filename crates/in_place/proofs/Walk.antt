@@ -78,7 +78,7 @@ body f xs p s =
 
 module _ {M : Type 1} {𝓤 : URA M} {H : Heap 𝓤} {A : Atoms 𝓤} {W : Given 𝓤 H A} {Γ : List (Item 𝓤)} {E : Env 𝓤 H} where
   -- a place whose local is known to the walk by an equation
-  at-spot : {i : ℕ} {st : List Step} {sp₀ sp : Spot 𝓤 H} → spotOf 𝓤 H E i ≡ sp₀ → Walks (Go {0}) W Γ E sp₀ st sp → Finds (Go {0}) W Γ E (place i st) sp
+  pub at-spot : {i : ℕ} {st : List Step} {sp₀ sp : Spot 𝓤 H} → spotOf 𝓤 H E i ≡ sp₀ → Walks (Go {0}) W Γ E sp₀ st sp → Finds (Go {0}) W Γ E (place i st) sp
   at-spot {st = st} {sp = sp} e w = from ! (subst (λ (x : Spot 𝓤 H). Walks (Go {0}) W Γ E x st sp) (sym e) w)
 
 module _ {M : Type 1} (𝓤 : URA M) (H : Heap 𝓤) (A : Atoms 𝓤) (W : Given 𝓤 H A) (κ : Lft) (q : Share) (b o : ℕ) (γ : GName) where
@@ -125,7 +125,7 @@ module _ {M : Type 1} (𝓤 : URA M) (H : Heap 𝓤) (A : Atoms 𝓤) (W : Given
         rewrite ! 6 (λ (u : Val). ‵ (fat fullShare R′.mir l₂ 0 u)) (ap only (LL.tells R.the-type R′.the-laws r (v ∷ []) is-v)) refl $ drop ! $
         assigns ! (of-opd ! (load ! (at-spot at-p (fld ! refl (stop !))) (look-in ! 5 (sub ! 0 refl (whole !))))) (from ! (hop ! (look ! 6 refl) (stop !))) (store-raw ! 0 refl (LL.lawful S.the-type S′.the-laws 𝓤 H A W .typed (r .state) _ (state-is r is) .0)) $
         assigns ! (agg ! (and-then ! (load ! (at-spot at-p (fld ! refl (stop !))) (look-in ! 5 (sub ! 1 refl (whole !)))) (and-then ! (load ! (at-spot at-p (fld ! refl (stop !))) (look-in ! 5 (sub ! 2 refl (whole !)))) (no-more !))))
-          (from ! (stop !)) (init ! 7 refl (LL.lawful T.the-type T′.the-laws 𝓤 H A W .typed (told r) _ (told-is r is) .0)) $
+        (from ! (stop !)) (init ! 7 refl (LL.lawful T.the-type T′.the-laws 𝓤 H A W .typed (told r) _ (told-is r is) .0)) $
         owned ! S.the-row (Is S.the-row) (LL.makes S.the-type S′.the-plain 𝓤 H A) (r .state) _ (state-is r is) $ move ! (1 ∷ 0 ∷ []) $ closes ! tt S.the-row (r .state) (state-val (r .state) ∷ []) b o $
         returns ! (look ! 6 refl) $ forget ! 3 refl $ forget ! 4 refl $ forget ! 5 refl $ forget ! 6 refl $ leaves is
 

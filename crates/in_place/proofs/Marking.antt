@@ -42,7 +42,7 @@ use Rattle.in_place.proofs.Walk as Walk
 abbrev step-ended : Ended
 step-ended = record { signature = record { lifetimes = 0; outlives = []; params = plain (λ κs. S.the-row) ∷ []; result = plain (λ κs. R.the-row) }; kept = (yes, tt) }
 
-abbrev mark-ended : Ended
+abbrev pub mark-ended : Ended
 mark-ended = record { signature = record { lifetimes = 1; outlives = []; params = RefMutOf (0 ∷ []) tt (plain (λ κs. S.the-row)) (λ κs. tt) ∷ []; result = plain (λ κs. T.the-row) }; kept = (yes, tt) }
 
 -- a mark's MIR, which calls f
@@ -58,11 +58,11 @@ function f = record {
 abbrev stayed : Stays (mark-ended .signature .params) (mark-ended .kept)
 stayed = (stay-ref (0 ∷ []) tt (plain (λ _. S.the-row)), tt)
 
-module _ (step : Switcher → Stepped) (f : Name) {M : Type 1} (𝓤 : URA M) (H : Heap 𝓤) (A : Atoms 𝓤) where
+module _ (step : Switcher → Stepped) {M : Type 1} (𝓤 : URA M) (H : Heap 𝓤) (A : Atoms 𝓤) where
   abbrev step-clauses : Clauses 𝓤 step-ended
   step-clauses κs a = record { ghost = Unit {0}; requires = λ g. emp 𝓤; ensures = λ g r e. fact 𝓤 (r ≡ step (a .0)) }
 
-  abbrev mark-clauses : Clauses 𝓤 mark-ended
+  abbrev pub mark-clauses : Clauses 𝓤 mark-ended
   mark-clauses κs a = record { ghost = Unit {0}; requires = λ g. emp 𝓤; ensures = λ g r e. fact 𝓤 ((r ≡ told (step (a .0 .now))) × (e .0 .now ≡ step (a .0 .now) .state)) }
 
   abbrev Step : Contract 𝓤
@@ -87,7 +87,7 @@ module _ (step : Switcher → Stepped) (f : Name) {M : Type 1} (𝓤 : URA M) (H
     gives : (v : Val) → ent 𝓤 (Step .post ((tt, tt, tt, (h, tt), (Walk.state-val h ∷ [], tt)), tt) v) (H .⇛ (sem 𝓤 H A (R.the-row .own (step h) (v ∷ []))))
     gives v = Walk.answered 𝓤 H A W (emp 𝓤) _ (step h) v (λ r. exE 𝓤 _ (λ ws. snd∗ 𝓤 (sem 𝓤 H A (lasts step-ended tt (h, tt) ws)) (fact 𝓤 (r ≡ step h))))
 
-    module _ (C : Calls 𝓤 H) (Λ : Loops 𝓤 H) (fm : FmC 𝓤 H (W .laws) C) (known : Triple 𝓤 (C f) Step) where
+    module _ (f : Name) (C : Calls 𝓤 H) (Λ : Loops 𝓤 H) (fm : FmC 𝓤 H (W .laws) C) (known : Triple 𝓤 (C f) Step) where
       walk : ent 𝓤 (onEntry 𝓤 H A (mark-ended .signature) (κ, tt) (q, tt) x at) (WpFn 𝓤 H C Λ (function f) (vptr b o ∷ []) Post)
       walk =
           qed W ((‵ (flft κ q) ⊛ ‵ ftrue) ∷ ‵ (owns (MutRef (named 0) κ S.the-row ∷ []) x at) ∷ []) ∵ split ! $ move ! (2 ∷ []) $ fsplit ! $ fsplit3 ! $ drop ! $ move ! (0 ∷ 1 ∷ 3 ∷ []) $
@@ -96,15 +96,15 @@ module _ (step : Switcher → Stepped) (f : Name) {M : Type 1} (𝓤 : URA M) (H
           -- [room for _3; …; room for _2; …; _1; …; room for _0; …; obs; the loan; the token; true; true]
           move ! (8 ∷ 9 ∷ 10 ∷ 0 ∷ 2 ∷ 4 ∷ 6 ∷ []) $
           Walk.walk 𝓤 H A W κ q b o γ C Λ fm f _ Step known ((tt, tt, tt, (h, tt), (Walk.state-val h ∷ [], tt)), tt) h (step h) asks gives _ 2 3 l₃ l₂ l₁ l₀ refl refl _ Post
-            (and-then ! (load ! (from ! (stop !)) (look ! 5 refl)) (no-more !)) (λ is.
+          (and-then ! (load ! (from ! (stop !)) (look ! 5 refl)) (no-more !)) (λ is.
           -- [obs; the loan; the token; room for _3, _2, _1 and _0; what frees each; true; true]
           move ! (6 ∷ 10 ∷ []) $ free1 ! $ move ! (5 ∷ 8 ∷ []) $ free1 ! $ move ! (4 ∷ 6 ∷ []) $ free1 ! $ move ! (3 ∷ 4 ∷ []) $ free1 ! $ free0 ! $ keep ! (0 ∷ 1 ∷ 2 ∷ 3 ∷ []) $ by ! (exits is))))))
 
-  walks : (W : Given 𝓤 H A) (C : Calls 𝓤 H) (Λ : Loops 𝓤 H) → FmC 𝓤 H (W .laws) C → Triple 𝓤 (C f) Step → Walks 𝓤 H A mark-ended stayed (WpFn 𝓤 H C Λ (function f)) mark-clauses
-  walks W C Λ fm known = walked 𝓤 H A mark-ended stayed mark-clauses (WpFn 𝓤 H C Λ (function f)) (λ κs. (ptr-vals, tt)) (λ κs. (mut-tells (named 0) (κs .0) S.the-row, tt))
-      (λ κs qs bounds a _ _. via 𝓤 _ (fst∗ 𝓤 _ (emp 𝓤)) (walk W (κs .0) (qs .0) (a .0 .ptr .0) (a .0 .ptr .1) (a .0 .name) (a .0 .now) C Λ fm known))
+  walks : (f : Name) (W : Given 𝓤 H A) (C : Calls 𝓤 H) (Λ : Loops 𝓤 H) → FmC 𝓤 H (W .laws) C → Triple 𝓤 (C f) Step → Walks 𝓤 H A mark-ended stayed (WpFn 𝓤 H C Λ (function f)) mark-clauses
+  walks f W C Λ fm known = walked 𝓤 H A mark-ended stayed mark-clauses (WpFn 𝓤 H C Λ (function f)) (λ κs. (ptr-vals, tt)) (λ κs. (mut-tells (named 0) (κs .0) S.the-row, tt))
+      (λ κs qs bounds a _ _. via 𝓤 _ (fst∗ 𝓤 _ (emp 𝓤)) (walk W (κs .0) (qs .0) (a .0 .ptr .0) (a .0 .ptr .1) (a .0 .name) (a .0 .now) f C Λ fm known))
 
-  pub meets : (W : Given 𝓤 H A) (𝓣 : Tables 𝓤 H) → Triple 𝓤 (𝓣 .C f) Step → Meets 𝓤 H A (mark-ended .signature) (WpFn 𝓤 H (𝓣 .C) (𝓣 .Λ) (function f)) (closing 𝓤 H A mark-ended mark-clauses)
-  meets W 𝓣 known =
+  pub meets : (f : Name) (W : Given 𝓤 H A) (𝓣 : Tables 𝓤 H) → Triple 𝓤 (𝓣 .C f) Step → Meets 𝓤 H A (mark-ended .signature) (WpFn 𝓤 H (𝓣 .C) (𝓣 .Λ) (function f)) (closing 𝓤 H A mark-ended mark-clauses)
+  meets f W 𝓣 known =
       walk-meets 𝓤 H A mark-ended stayed W (goes-ref 𝓤 H A W 1 0 tt (plain (λ _. S.the-row)), tt) mark-clauses (WpFn 𝓤 H (𝓣 .C) (𝓣 .Λ) (function f)) (WpFn-mono 𝓤 H (W .laws) 𝓣 (function f))
-      (walks W (𝓣 .C) (𝓣 .Λ) (fmOf 𝓤 H (W .laws) 𝓣) known)
+      (walks f W (𝓣 .C) (𝓣 .Λ) (fmOf 𝓤 H (W .laws) 𝓣) known)
