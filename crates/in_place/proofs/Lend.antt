@@ -38,7 +38,7 @@ use Rattle.switcher.specs.declared.Stepped.{Stepped}
 use Rattle.switcher.proofs.Switcher as S
 use Rattle.switcher.proofs.Switcher.Laws as S′
 use Rattle.in_place.specs.declared.Told.{Told}
-use Rattle.in_place.specs.InPlace.{told}
+use Rattle.in_place.specs.InPlace.{told, InPlace}
 use Rattle.in_place.proofs.Told as T
 use Rattle.in_place.proofs.Told.Laws as T′
 use Rattle.in_place.proofs.Marking.{mark-ended, mark-clauses}
@@ -76,12 +76,12 @@ module _ {M : Type 1} (𝓤 : URA M) (H : Heap 𝓤) (A : Atoms 𝓤) (W : Given
   -- it has that of any callee whose contract says the two equations; `last` is the state among the last values
   pub returned : {Lasts : Type 0} (last : Lasts → Switcher) (others : Lasts → Fml) (r : Stepped) (ν : ℕ) (γ : GName) (v : Val)
       → ent 𝓤 (H .⇛ (ex 𝓤 (λ (z : Told). sep 𝓤 (sep 𝓤 (sep 𝓤 (A .lft (ν ∷ []) fullShare) (emp 𝓤)) (sem 𝓤 H A (T.the-row .own z (v ∷ []))))
-      (ex 𝓤 (λ (ws : Lasts). sep 𝓤 (sem 𝓤 H A (fsep (fres γ (S.the-row .coded .code (last ws))) (others ws))) (fact 𝓤 ((z ≡ told r) × (last ws ≡ r .state))))))))
+      (ex 𝓤 (λ (ws : Lasts). sep 𝓤 (sem 𝓤 H A (fsep (fres γ (S.the-row .coded .code (last ws))) (others ws))) (fact 𝓤 (InPlace r z (last ws))))))))
       (H .⇛ (Returned r ν γ v))
   returned {Lasts} last others r ν γ v =
       qed W (later (some (λ (z : Told). ((‵ (flft (ν ∷ []) fullShare) ⊛ ‵ ftrue) ⊛ ‵ (T.the-row .own z (v ∷ []))) ⊛
-      some (λ (ws : Lasts). ‵ (fsep (fres γ (S.the-row .coded .code (last ws))) (others ws)) ⊛ raw (fact 𝓤 ((z ≡ told r) × (last ws ≡ r .state)))))) ∷ []) ∵
-      updating ! $ await ! tt $ at-once ! $ pick ! (λ z. split ! $ move ! (1 ∷ []) $ pick ! (λ ws. split ! $ move ! (1 ∷ []) $ heard ! ((z ≡ told r) × (last ws ≡ r .state)) (λ e. fsplit ! $
+      some (λ (ws : Lasts). ‵ (fsep (fres γ (S.the-row .coded .code (last ws))) (others ws)) ⊛ raw (fact 𝓤 (InPlace r z (last ws)))))) ∷ []) ∵
+      updating ! $ await ! tt $ at-once ! $ pick ! (λ z. split ! $ move ! (1 ∷ []) $ pick ! (λ ws. split ! $ move ! (1 ∷ []) $ heard ! (InPlace r z (last ws)) (λ e. fsplit ! $
       move ! (2 ∷ []) $ split ! $ split ! $ rewrite ! 2 (λ (y : Told). ‵ (T.the-row .own y (v ∷ []))) (e .0) refl $ rewrite ! 3 (λ (y : Switcher). ‵ (fres γ (S.the-row .coded .code y))) (e .1) refl $
       keep ! (0 ∷ 3 ∷ 2 ∷ []) $ done !)))
 

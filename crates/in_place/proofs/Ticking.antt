@@ -33,7 +33,7 @@ use Rattle.switcher.proofs.Switcher as S
 use Rattle.switcher.proofs.Switcher.Laws as S′
 use Rattle.switcher.proofs.Stepped as R
 use Rattle.switcher.proofs.Stepped.Laws as R′
-use Rattle.in_place.specs.InPlace.{told}
+use Rattle.in_place.specs.InPlace.{told, InPlace}
 use Rattle.in_place.proofs.Told as T
 use Rattle.in_place.proofs.Told.Laws as T′
 use Rattle.in_place.proofs.Walk as Walk
@@ -63,7 +63,7 @@ module _ (step : Switcher → ℕ → Stepped) {M : Type 1} (𝓤 : URA M) (H : 
   step-clauses κs a = record { ghost = Unit {0}; requires = λ g. emp 𝓤; ensures = λ g r e. fact 𝓤 (r ≡ step (a .0) (a .1 .0)) }
 
   abbrev pub tick-clauses : Clauses 𝓤 tick-ended
-  tick-clauses κs a = record { ghost = Unit {0}; requires = λ g. emp 𝓤; ensures = λ g r e. fact 𝓤 ((r ≡ told (step (a .0 .now) (a .1 .0))) × (e .0 .now ≡ step (a .0 .now) (a .1 .0) .state)) }
+  tick-clauses κs a = record { ghost = Unit {0}; requires = λ g. emp 𝓤; ensures = λ g r e. fact 𝓤 (InPlace (step (a .0 .now) (a .1 .0)) r (e .0 .now)) }
 
   abbrev Step : Contract 𝓤
   Step = tripleOf 𝓤 H A (step-ended .signature) (closing 𝓤 H A step-ended step-clauses)

@@ -36,7 +36,7 @@ use Rattle.switcher.proofs.Switcher.Laws as S′
 use Rattle.switcher.proofs.Stepped as R
 use Rattle.switcher.proofs.Stepped.Laws as R′
 use Rattle.in_place.specs.declared.Told.{Told}
-use Rattle.in_place.specs.InPlace.{told}
+use Rattle.in_place.specs.InPlace.{told, InPlace}
 use Rattle.in_place.proofs.Told as T
 use Rattle.in_place.proofs.Told.Laws as T′
 
@@ -90,7 +90,7 @@ module _ {M : Type 1} (𝓤 : URA M) (H : Heap 𝓤) (A : Atoms 𝓤) (W : Given
   pub ending : (r : Stepped) (X : Fml) → Is R.the-row r (stepped-val r ∷ [])
       → ent 𝓤 (⋆ 𝓤 H A (Loan (r .state) (‵ X ∷ [])))
       (sep 𝓤 (sep 𝓤 (sep 𝓤 (A .lft κ q) (emp 𝓤)) (sep 𝓤 (sem 𝓤 H A (fsep (MutRef (named 0) κ S.the-row .own (record { ptr = (b, o); name = γ; now = r .state }) (vptr b o ∷ [])) X)) (sem 𝓤 H A (T.the-row .own (told r) (told-val (told r) ∷ [])))))
-      (fact 𝓤 ((told r ≡ told r) × (r .state ≡ r .state))))
+      (fact 𝓤 (InPlace r (told r) (r .state))))
   ending r X is =
       qed W (Loan (r .state) (‵ X ∷ [])) ∵ says ! (refl, refl) $ nothing ! $ move ! (3 ∷ 0 ∷ []) $ join ! $ frame ! $ feqI ! (List Val) (vptr b o ∷ []) (vptr b o ∷ []) refl $ fjoin3 ! $ fjoin ! $
       owned ! T.the-row (Is T.the-row) (LL.makes T.the-type T′.the-plain 𝓤 H A) (told r) _ (told-is r is) $ move ! (1 ∷ 0 ∷ []) $ done !

@@ -1,2 +1,3 @@
+pub mod InPlace
 pub mod Original
 pub mod Refusals

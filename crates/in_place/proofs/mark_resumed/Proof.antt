@@ -19,7 +19,7 @@ use Rattle.switcher.proofs.Switcher.mark_resumed as step
 use Rattle.switcher.proofs.Switcher.mark_resumed.Symbol as step-def
 use Rattle.switcher.proofs.Switcher.mark_resumed.Met as step-thm
 use Rattle.in_place.specs.declared.Told.{Told}
-use Rattle.in_place.specs.InPlace.{told}
+use Rattle.in_place.specs.InPlace.{InPlace}
 use Rattle.in_place.proofs.Marking.{meets}
 use Rattle.in_place.proofs.mark_resumed.Key.{name}
 use Rattle.in_place.proofs.mark_resumed as mark-resumed
@@ -27,8 +27,8 @@ use Rattle.in_place.proofs.mark_resumed.Statement.{statement}
 use Rattle.in_place.proofs.mark_resumed.Code as code
 
 -- what the contract says, as the walk shows it
-pub says : {M : Type 1} (𝓤 : URA M) (H : Heap 𝓤) (A : Atoms 𝓤) (mem : Memory → SProp 𝓤) (run : Routine → Fun 𝓤) (κs : Lfts 1) (lent last : RefT Switcher) (r : Told)
-    → mark-resumed.ensures-1 𝓤 H κs A mem run lent (record { entry = lent; exit = last }) r ≡ fact 𝓤 ((r ≡ told (markResumedOf (lent .now))) × (last .now ≡ markResumedOf (lent .now) .state))
+says : {M : Type 1} (𝓤 : URA M) (H : Heap 𝓤) (A : Atoms 𝓤) (mem : Memory → SProp 𝓤) (run : Routine → Fun 𝓤) (κs : Lfts 1) (lent last : RefT Switcher) (r : Told)
+    → mark-resumed.ensures-1 𝓤 H κs A mem run lent (record { entry = lent; exit = last }) r ≡ fact 𝓤 (InPlace (markResumedOf (lent .now)) r (last .now))
 says 𝓤 H A mem run κs lent last r = refl
 
 pub mark-resumed-spec : {M : Type 1} → statement M

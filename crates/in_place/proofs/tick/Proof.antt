@@ -20,7 +20,7 @@ use Rattle.switcher.proofs.Switcher.tick as step
 use Rattle.switcher.proofs.Switcher.tick.Symbol as step-def
 use Rattle.switcher.proofs.Switcher.tick.Met as step-thm
 use Rattle.in_place.specs.declared.Told.{Told}
-use Rattle.in_place.specs.InPlace.{told}
+use Rattle.in_place.specs.InPlace.{InPlace}
 use Rattle.in_place.proofs.Ticking.{meets}
 use Rattle.in_place.proofs.tick.Key.{name}
 use Rattle.in_place.proofs.tick as tick
@@ -28,8 +28,8 @@ use Rattle.in_place.proofs.tick.Statement.{statement}
 use Rattle.in_place.proofs.tick.Code as code
 
 -- what the contract says, as the walk shows it
-pub says : {M : Type 1} (𝓤 : URA M) (H : Heap 𝓤) (A : Atoms 𝓤) (mem : Memory → SProp 𝓤) (run : Routine → Fun 𝓤) (κs : Lfts 1) (lent last : RefT Switcher) (t : ℕ) (r : Told)
-    → tick.ensures-1 𝓤 H κs A mem run lent t (record { entry = lent; exit = last }) (record { entry = t; exit = t }) r ≡ fact 𝓤 ((r ≡ told (tickOf (lent .now) t)) × (last .now ≡ tickOf (lent .now) t .state))
+says : {M : Type 1} (𝓤 : URA M) (H : Heap 𝓤) (A : Atoms 𝓤) (mem : Memory → SProp 𝓤) (run : Routine → Fun 𝓤) (κs : Lfts 1) (lent last : RefT Switcher) (t : ℕ) (r : Told)
+    → tick.ensures-1 𝓤 H κs A mem run lent t (record { entry = lent; exit = last }) (record { entry = t; exit = t }) r ≡ fact 𝓤 (InPlace (tickOf (lent .now) t) r (last .now))
 says 𝓤 H A mem run κs lent last t r = refl
 
 pub tick-spec : {M : Type 1} → statement M
