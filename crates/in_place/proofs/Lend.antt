@@ -43,7 +43,7 @@ use Rattle.in_place.proofs.Told as T
 use Rattle.in_place.proofs.Told.Laws as T′
 use Rattle.in_place.proofs.Marking.{mark-ended, mark-clauses}
 use Rattle.in_place.proofs.Ticking.{tick-ended, tick-clauses}
-use Rattle.in_place.proofs.Walk.{state-val, told-val, at-spot}
+use Rattle.in_place.proofs.Walk.{state-val, told-val, told-fits, at-spot}
 
 -- the type of the local that holds the reference
 abbrev pub Lending : Ty
@@ -141,6 +141,6 @@ module _ {M : Type 1} (𝓤 : URA M) (H : Heap 𝓤) (A : Atoms 𝓤) (W : Given
         lft-end ! tt $ move ! (0 ∷ 3 ∷ 1 ∷ []) $ use3 W (later (‵ (partAt S.the-row fullShare (r .state) lₘ 0))) (ref-back 𝓤 H A W S.the-row (ν ∷ []) γ (r .state) lₘ 0) $ await ! tt $
         use1 W (given (Is S.the-row (r .state) (state-val (r .state) ∷ [])) (‵ (fat fullShare S′.mir lₘ 0 (state-val (r .state))))) (back (r .state) lₘ) $ learn ! (λ is-state.
         move ! (1 ∷ []) $ peeks ! T.the-row (Is T.the-row) (shows 𝓤 H A T.the-row) (told r) (v ∷ []) (λ is-told. drop ! $
-        land ! (at-spot at-p (stop !)) (init ! 2 refl (LL.lawful T.the-type T′.the-laws 𝓤 H A W .typed (told r) _ is-told .0)) $
+        land ! (at-spot at-p (stop !)) (init ! 2 refl (told-fits 𝓤 H A W (told r) v is-told)) $
         rewrite ! 2 (λ (u : Val). ‵ (fat fullShare T′.mir lₚ 0 u)) (ap only (LL.tells T.the-type T′.the-laws (told r) (v ∷ []) is-told)) refl $
         goes-on is-state (subst (Is T.the-row (told r)) (LL.tells T.the-type T′.the-laws (told r) (v ∷ []) is-told) is-told))))))

@@ -2,6 +2,7 @@
 -- where it was lent, the by-value step is called, its state is stored back, the rest of its answer is made the result, and the
 -- function returns. The walk below goes through them for any callee f that answers r at the state h, in any function whose locals
 -- the equations find.
+-- Assumes nothing.
 use mathlib.Core.Path.{_≡_, refl, sym, ap, subst}
 use Prim.Native.Nat.{ℕ}
 use mathlib.Core.List.{[], _∷_, List}
@@ -56,6 +57,17 @@ state-is r is = LL.owed R.the-type R′.the-laws r _ is .0
 
 pub told-is : (r : Stepped) → Is R.the-row r (stepped-val r ∷ []) → Is T.the-row (told r) (told-val (told r) ∷ [])
 told-is r is = LL.owes T.the-type T′.the-laws (told r) (LL.owed R.the-type R′.the-laws r _ is .1)
+
+-- and each fits where it is stored
+module _ {M : Type 1} (𝓤 : URA M) (H : Heap 𝓤) (A : Atoms 𝓤) (W : Given 𝓤 H A) where
+  pub state-fits : (h : Switcher) (v : Val) → Is S.the-row h (v ∷ []) → Holds (hasTy S′.mir v) × WT v
+  state-fits h v is = LL.lawful S.the-type S′.the-laws 𝓤 H A W .typed h (v ∷ []) is .0
+
+  pub stepped-fits : (r : Stepped) (v : Val) → Is R.the-row r (v ∷ []) → Holds (hasTy R′.mir v) × WT v
+  stepped-fits r v is = LL.lawful R.the-type R′.the-laws 𝓤 H A W .typed r (v ∷ []) is .0
+
+  pub told-fits : (z : Told) (v : Val) → Is T.the-row z (v ∷ []) → Holds (hasTy T′.mir v) × WT v
+  told-fits z v is = LL.lawful T.the-type T′.the-laws 𝓤 H A W .typed z (v ∷ []) is .0
 
 -- the type of the parameter
 abbrev pub Lent : Ty
@@ -121,11 +133,11 @@ module _ {M : Type 1} (𝓤 : URA M) (H : Heap 𝓤) (A : Atoms 𝓤) (W : Given
         → Sq W (‵ (R.the-row .own r (v ∷ [])) ∷ Calling h l₃ l₂ l₁ l₀ Γ) (lands C Λ E (place p []) v (stores p) (atRet E Post))
     stored Γ Post leaves v is-v =
         let is : Is R.the-row r (stepped-val r ∷ []) = subst (Is R.the-row r) (LL.tells R.the-type R′.the-laws r (v ∷ []) is-v) is-v in
-        land ! (at-spot at-p (stop !)) (init ! 6 refl (LL.lawful R.the-type R′.the-laws 𝓤 H A W .typed r _ is-v .0)) $
+        land ! (at-spot at-p (stop !)) (init ! 6 refl (stepped-fits 𝓤 H A W r v is-v)) $
         rewrite ! 6 (λ (u : Val). ‵ (fat fullShare R′.mir l₂ 0 u)) (ap only (LL.tells R.the-type R′.the-laws r (v ∷ []) is-v)) refl $ drop ! $
-        assigns ! (of-opd ! (load ! (at-spot at-p (fld ! refl (stop !))) (look-in ! 5 (sub ! 0 refl (whole !))))) (from ! (hop ! (look ! 6 refl) (stop !))) (store-raw ! 0 refl (LL.lawful S.the-type S′.the-laws 𝓤 H A W .typed (r .state) _ (state-is r is) .0)) $
+        assigns ! (of-opd ! (load ! (at-spot at-p (fld ! refl (stop !))) (look-in ! 5 (sub ! 0 refl (whole !))))) (from ! (hop ! (look ! 6 refl) (stop !))) (store-raw ! 0 refl (state-fits 𝓤 H A W (r .state) _ (state-is r is))) $
         assigns ! (agg ! (and-then ! (load ! (at-spot at-p (fld ! refl (stop !))) (look-in ! 5 (sub ! 1 refl (whole !)))) (and-then ! (load ! (at-spot at-p (fld ! refl (stop !))) (look-in ! 5 (sub ! 2 refl (whole !)))) (no-more !))))
-        (from ! (stop !)) (init ! 7 refl (LL.lawful T.the-type T′.the-laws 𝓤 H A W .typed (told r) _ (told-is r is) .0)) $
+        (from ! (stop !)) (init ! 7 refl (told-fits 𝓤 H A W (told r) _ (told-is r is))) $
         owned ! S.the-row (Is S.the-row) (LL.makes S.the-type S′.the-plain 𝓤 H A) (r .state) _ (state-is r is) $ move ! (1 ∷ 0 ∷ []) $ closes ! tt S.the-row (r .state) (state-val (r .state) ∷ []) b o $
         returns ! (look ! 6 refl) $ forget ! 3 refl $ forget ! 4 refl $ forget ! 5 refl $ forget ! 6 refl $ leaves is
 
@@ -136,7 +148,7 @@ module _ {M : Type 1} (𝓤 : URA M) (H : Heap 𝓤) (A : Atoms 𝓤) (W : Given
         opens ! tt S.the-row {h = h} b o (λ vs. spelt ! S.the-row (Is S.the-row) (shows 𝓤 H A S.the-row) (LL.vals S.the-type S′.the-laws) (LL.tells S.the-type S′.the-laws) fullShare h vs b o $
         move ! (1 ∷ []) $ peeks ! S.the-row (Is S.the-row) (shows 𝓤 H A S.the-row) h (state-val h ∷ []) (λ is.
         -- [what the state owns; its cell; the open loan; obs; auth; room for s; room for p; _1; room for _0; …]
-        assigns ! (of-opd ! (load ! (from ! (hop ! (look ! 7 refl) (stop !))) (look-raw ! 1 refl))) (at-spot at-s (stop !)) (init ! 5 refl (LL.lawful S.the-type S′.the-laws 𝓤 H A W .typed h _ is .0)) $
+        assigns ! (of-opd ! (load ! (from ! (hop ! (look ! 7 refl) (stop !))) (look-raw ! 1 refl))) (at-spot at-s (stop !)) (init ! 5 refl (state-fits 𝓤 H A W h _ is)) $
         use1 W (raw (c .pre x)) asks $ calls-at ! fm c known x operands (λ v. use1 W (later (‵ (R.the-row .own r (v ∷ [])))) (gives v) $ await ! tt $
         peeks ! R.the-row (Is R.the-row) (shows 𝓤 H A R.the-row) r (v ∷ []) (λ is-v. stored Γ Post leaves v is-v))))
 
