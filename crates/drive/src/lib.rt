@@ -1,11 +1,9 @@
-// What bench/main.rs times: a machine that is driven on, each open call answered with zero and each tick the due one; and a run.
+// What bench/main.rs times of the machine: it is driven on, each open call answered with zero and each tick the due one.
 ghost use mathlib.Core.Path.{_≡_};
-ghost use Rattle.plan.specs.Plan.{planOf};
-ghost use Rattle.run.specs.Run.{runOf, logOf};
+ghost use Rattle.plan.specs.Plan.{frameOf, planOf};
 ghost use Rattle.drive.specs.Drive.{onward, driven};
 use plan::Frame;
 use protocol::Call;
-use run::run;
 use state::Answer;
 use state::State;
 use switch::status;
@@ -25,13 +23,7 @@ fn go_on(answer: Answer, frame: Frame, windows: &[u32], rows: &[u32]) -> Answer
 }
 
 // The due tick after a cold start and so many events.
-#[no_mangle]
-pub extern "C" fn shillingnook_driven(
-    frame: Frame,
-    windows: &[u32],
-    rows: &[u32],
-    events: u32,
-) -> u32
+fn due_after(frame: Frame, windows: &[u32], rows: &[u32], events: u32) -> u32
     ensures { λ due. ⌜ due ≡ driven (planOf frame (now (windows .entry)) (now (rows .entry))) events .state .due ⌝ }
 {
     let mut answer = State::cold_start(frame, windows, rows);
@@ -43,20 +35,15 @@ pub extern "C" fn shillingnook_driven(
     answer.state.due
 }
 
-// How many calls a run writes.
 #[no_mangle]
-pub extern "C" fn shillingnook_run(
-    frame: Frame,
+pub extern "C" fn shillingnook_driven(
+    length: u32,
     windows: &[u32],
     rows: &[u32],
-    ticks: &[u32],
-    statuses: &[u32],
-    log: &mut [u32],
-) -> usize
-    ensures { λ calls.
-        let p = planOf frame (now (windows .entry)) (now (rows .entry)) in
-        ⌜ (calls ≡ runOf p (now (ticks .entry)) (now (statuses .entry)) (now (log .entry)) .calls) × (now (log .exit) ≡ logOf p (now (ticks .entry)) (now (statuses .entry)) (now (log .entry))) ⌝ }
+    events: u32,
+) -> u32
+    ensures { λ due. ⌜ due ≡ driven (planOf (frameOf length) (now (windows .entry)) (now (rows .entry))) events .state .due ⌝ }
 {
-    let end = run(frame, windows, rows, ticks, statuses, log);
-    end.calls
+    let frame = Frame { length };
+    due_after(frame, windows, rows, events)
 }

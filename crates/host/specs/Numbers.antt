@@ -1,17 +1,27 @@
--- Answers as the host sees them: document 01's number and place, 0 and 0 where accepted ("Refusal numbers and their place").
-use Rattle.refusal.specs.declared.Verdict.{Verdict}
-use Rattle.refusal.specs.Table.{outcome}
+-- What the C interface writes: each answer begins with the refusal's number, its place and its host code, three zeros where accepted (`verdictWords` of crate `wire`).
+use mathlib.Core.List.{List, [], _∷_, _++_}
+use Prim.Native.Nat.{ℕ}
+use lib.ListN.{getD}
 use Rattle.lookup.specs.declared.Located.{Located}
+use Rattle.run.specs.declared.RunAnswer.{RunAnswer}
+use Rattle.words.specs.declared.Pair.{Pair}
 use Rattle.words.specs.declared.Words.{Words}
-use Rattle.host.specs.declared.Outcome.{Outcome}
-use Rattle.host.specs.declared.Whereabouts.{Whereabouts}
-use Rattle.host.specs.declared.RegionWords.{RegionWords}
+use Rattle.wire.specs.Answers.{verdictWords}
 
-abbrev pub outcomeOf : Verdict → Outcome
-outcomeOf v = record { number = outcome v .0; place = outcome v .1 }
+-- then the window
+abbrev pub locatedWords : Located → List ℕ
+locatedWords l = verdictWords (l .verdict) ++ (l .window .0 ∷ [])
 
-abbrev pub whereaboutsOf : Located → Whereabouts
-whereaboutsOf l = record { window = l .window .0; outcome = outcomeOf (l .verdict) }
+-- then slot by slot its two words
+abbrev pub slotWords : List Pair → ℕ → List ℕ
+slotWords slots k = let pair = getD slots k (record { first = 0; second = 0 }) in pair .first ∷ pair .second ∷ []
 
-abbrev pub regionWordsOf : Words → RegionWords
-regionWordsOf w = record { slots = w .slots; outcome = outcomeOf (w .verdict) }
+abbrev pub slotsWords : List Pair → List ℕ
+slotsWords slots = let slot = slotWords slots in slot 0 ++ slot 1 ++ slot 2 ++ slot 3 ++ slot 4 ++ slot 5 ++ slot 6 ++ slot 7
+
+abbrev pub regionWords : Words → List ℕ
+regionWords w = verdictWords (w .verdict) ++ slotsWords (w .slots)
+
+-- the ticks used, the statuses used, the calls written
+abbrev pub countsOf : RunAnswer → List ℕ
+countsOf r = r .ticks ∷ r .statuses ∷ r .calls ∷ []

@@ -80,10 +80,20 @@ use Rattle.in_place.proofs.mark_resumed as in-place-mark-resumed
 use Rattle.promise.proofs.of_any_plan.Reads as promise-of-any-plan
 use Rattle.promise.proofs.of_any_state.Reads as promise-of-any-state
 use Rattle.drive.proofs.shillingnook_driven.Reads as drive-shillingnook-driven
-use Rattle.drive.proofs.shillingnook_run.Reads as drive-shillingnook-run
+use Rattle.wire.proofs.verdict_words.Reads as wire-verdict-words
+use Rattle.wire.proofs.answer_words.Reads as wire-answer-words
+use Rattle.wire.proofs.state_words.Reads as wire-state-words
+use Rattle.wire.proofs.read_state.Reads as wire-read-state
+use Rattle.in_words.proofs.tick.Reads as in-words-tick
+use Rattle.in_words.proofs.status.Reads as in-words-status
+use Rattle.in_words.proofs.left.Reads as in-words-left
 use Rattle.host.proofs.shillingnook_check.Reads as host-shillingnook-check
 use Rattle.host.proofs.shillingnook_lookup.Reads as host-shillingnook-lookup
 use Rattle.host.proofs.shillingnook_words.Reads as host-shillingnook-words
+use Rattle.host.proofs.shillingnook_cold_start.Reads as host-shillingnook-cold-start
+use Rattle.host.proofs.shillingnook_tick.Reads as host-shillingnook-tick
+use Rattle.host.proofs.shillingnook_status.Reads as host-shillingnook-status
+use Rattle.host.proofs.shillingnook_run.Reads as host-shillingnook-run
 
 -- both are the same definition
 both : {A : Type 0} {one other definition : A} → one ≡ definition → other ≡ definition → one ≡ other
@@ -286,17 +296,26 @@ promise-of-any-state-one κs xs r r′ ends ends′ e e′ = refl
 pub drive-shillingnook-driven-one : OneAnswer drive-shillingnook-driven.Post
 drive-shillingnook-driven-one κs xs r r′ ends ends′ e e′ = both e e′
 
-pub drive-shillingnook-run-one : OneAnswer drive-shillingnook-run.Post
-drive-shillingnook-run-one κs xs r r′ ends ends′ e e′ = both (e .0) (e′ .0)
+pub wire-verdict-words-one : OneAnswer wire-verdict-words.Post
+wire-verdict-words-one κs xs r r′ ends ends′ e e′ = both e e′
 
-pub host-shillingnook-check-one : OneAnswer host-shillingnook-check.Post
-host-shillingnook-check-one κs xs r r′ ends ends′ e e′ = both e e′
+pub wire-answer-words-one : OneAnswer wire-answer-words.Post
+wire-answer-words-one κs xs r r′ ends ends′ e e′ = both e e′
 
-pub host-shillingnook-lookup-one : OneAnswer host-shillingnook-lookup.Post
-host-shillingnook-lookup-one κs xs r r′ ends ends′ e e′ = both e e′
+pub wire-state-words-one : OneAnswer wire-state-words.Post
+wire-state-words-one κs xs r r′ ends ends′ e e′ = both e e′
 
-pub host-shillingnook-words-one : OneAnswer host-shillingnook-words.Post
-host-shillingnook-words-one κs xs r r′ ends ends′ e e′ = both e e′
+pub wire-read-state-one : OneAnswer wire-read-state.Post
+wire-read-state-one κs xs r r′ ends ends′ e e′ = both e e′
+
+pub in-words-tick-one : OneAnswer in-words-tick.Post
+in-words-tick-one κs xs r r′ ends ends′ e e′ = both e e′
+
+pub in-words-status-one : OneAnswer in-words-status.Post
+in-words-status-one κs xs r r′ ends ends′ e e′ = both e e′
+
+pub in-words-left-one : OneAnswer in-words-left.Post
+in-words-left-one κs xs r r′ ends ends′ e e′ = both e e′
 
 -- the log that is lent to be written
 pub log-put-call-log : OneReading log-put-call.Post (λ κs r ends. now (ends .0))
@@ -305,8 +324,47 @@ log-put-call-log κs xs r r′ ends ends′ e e′ = both (e .1) (e′ .1)
 pub run-run-log : OneReading run-run.Post (λ κs r ends. now (ends .1 .1 .1 .1 .1 .0))
 run-run-log κs xs r r′ ends ends′ e e′ = both (e .1) (e′ .1)
 
-pub drive-shillingnook-run-log : OneReading drive-shillingnook-run.Post (λ κs r ends. now (ends .1 .1 .1 .1 .1 .0))
-drive-shillingnook-run-log κs xs r r′ ends ends′ e e′ = both (e .1) (e′ .1)
+-- the C interface answers nothing; what it writes is one: the answers,
+pub host-shillingnook-check-one : OneReading host-shillingnook-check.Post (λ κs r ends. now (ends .1 .1 .1 .0))
+host-shillingnook-check-one κs xs r r′ ends ends′ e e′ = both e e′
+
+pub host-shillingnook-lookup-one : OneReading host-shillingnook-lookup.Post (λ κs r ends. now (ends .1 .1 .1 .1 .0))
+host-shillingnook-lookup-one κs xs r r′ ends ends′ e e′ = both e e′
+
+pub host-shillingnook-words-one : OneReading host-shillingnook-words.Post (λ κs r ends. now (ends .1 .1 .1 .1 .0))
+host-shillingnook-words-one κs xs r r′ ends ends′ e e′ = both e e′
+
+pub host-shillingnook-cold-start-one : OneReading host-shillingnook-cold-start.Post (λ κs r ends. now (ends .1 .1 .1 .1 .0))
+host-shillingnook-cold-start-one κs xs r r′ ends ends′ e e′ = both (e .0) (e′ .0)
+
+pub host-shillingnook-tick-one : OneReading host-shillingnook-tick.Post (λ κs r ends. now (ends .1 .1 .1 .1 .1 .0))
+host-shillingnook-tick-one κs xs r r′ ends ends′ e e′ = both (e .0) (e′ .0)
+
+pub host-shillingnook-status-one : OneReading host-shillingnook-status.Post (λ κs r ends. now (ends .1 .1 .1 .1 .1 .0))
+host-shillingnook-status-one κs xs r r′ ends ends′ e e′ = both (e .0) (e′ .0)
+
+pub host-shillingnook-run-one : OneReading host-shillingnook-run.Post (λ κs r ends. now (ends .1 .1 .1 .1 .1 .1 .1 .1 .0))
+host-shillingnook-run-one κs xs r r′ ends ends′ e e′ = both (e .0) (e′ .0)
+
+pub host-shillingnook-run-counts : OneReading host-shillingnook-run.Post (λ κs r ends. now (ends .1 .1 .1 .1 .1 .1 .1 .0))
+host-shillingnook-run-counts κs xs r r′ ends ends′ e e′ = both (e .1) (e′ .1)
+
+-- the state,
+pub host-shillingnook-cold-start-state : OneReading host-shillingnook-cold-start.Post (λ κs r ends. now (ends .1 .1 .1 .0))
+host-shillingnook-cold-start-state κs xs r r′ ends ends′ e e′ = both (e .1) (e′ .1)
+
+pub host-shillingnook-tick-state : OneReading host-shillingnook-tick.Post (λ κs r ends. now (ends .1 .1 .1 .1 .0))
+host-shillingnook-tick-state κs xs r r′ ends ends′ e e′ = both (e .1) (e′ .1)
+
+pub host-shillingnook-status-state : OneReading host-shillingnook-status.Post (λ κs r ends. now (ends .1 .1 .1 .1 .0))
+host-shillingnook-status-state κs xs r r′ ends ends′ e e′ = both (e .1) (e′ .1)
+
+pub host-shillingnook-run-state : OneReading host-shillingnook-run.Post (λ κs r ends. now (ends .1 .1 .1 .1 .1 .1 .0))
+host-shillingnook-run-state κs xs r r′ ends ends′ e e′ = both (e .2) (e′ .2)
+
+-- and the log
+pub host-shillingnook-run-log : OneReading host-shillingnook-run.Post (λ κs r ends. now (ends .1 .1 .1 .1 .1 .0))
+host-shillingnook-run-log κs xs r r′ ends ends′ e e′ = both (e .3) (e′ .3)
 
 -- a contract that leaves something to choose does not pass
 pub two-answers : OneAnswer belowTwo → ⊥

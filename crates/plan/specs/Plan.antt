@@ -14,6 +14,10 @@ pub record Plan : Type 0 where
   pub windows : List ℕ
   pub rows : List ℕ
 
+-- a frame of that length
+abbrev pub frameOf : (length : ℕ) → Frame
+frameOf length = record { length = length }
+
 abbrev pub planOf : Frame → List ℕ → List ℕ → Plan
 planOf frame windows rows = record { frame = frame; windows = windows; rows = rows }
 
