@@ -38,7 +38,7 @@ fn agree(length: u32, windows: &[u32], rows: &[u32]) {
         let proved = proved::check(length, windows, rows);
         for other in [ordinary::check::<false>(length, windows, rows), ordinary::check::<true>(length, windows, rows)] {
             let ordinary::Refused(number, place) = other.err().unwrap_or(ordinary::Refused(0, 0));
-            assert_eq!((proved.number, proved.place), (number, place));
+            assert_eq!(proved, (number, place));
         }
         #[cfg(before)]
         assert_eq!(proved, proved::before::check(length, windows, rows));
@@ -97,8 +97,7 @@ fn entry_points() {
                 repeat("ordinary", batch, || ordinary::check::<true>(black_box(length), w, r)),
             ],
         );
-        let pairs = proved::words(length, w, r, 3).slots.map(|pair| (pair.first, pair.second));
-        assert_eq!(Some(pairs), ordinary::words(length, w, r, 3).ok());
+        assert_eq!(Some(proved::words(length, w, r, 3)), ordinary::words(length, w, r, 3).ok());
         compare(
             &format!("region words, 64 windows, {count} rows"),
             batch,
@@ -108,7 +107,7 @@ fn entry_points() {
             ],
         );
         for (place, t) in [("first", 0), ("last", length - 1)] {
-            assert_eq!(Some(proved::lookup(length, w, r, t).window), ordinary::lookup(length, w, r, t).ok());
+            assert_eq!(Some(proved::lookup(length, w, r, t)), ordinary::lookup(length, w, r, t).ok());
             compare(
                 &format!("lookup in the {place} window, 64 windows, {count} rows"),
                 batch,
@@ -131,11 +130,13 @@ fn events() {
         let (w, r) = (&windows[..], &rows[..]);
         let batch = if r.is_empty() { 100_000 } else { 2_000 };
         assert_eq!(proved::driven(length, w, r, batch), ordinary::driven::<true>(length, w, r, batch));
+        assert_eq!(proved::driven(length, w, r, batch), proved::driven_in_words(length, w, r, batch));
         compare(
             &format!("an event, {name}"),
             batch,
             vec![
                 repeat("proved", 1, || proved::driven(length, w, r, black_box(batch))),
+                repeat("proved, in words", 1, || proved::driven_in_words(length, w, r, black_box(batch))),
                 repeat("ordinary", 1, || ordinary::driven::<true>(length, w, r, black_box(batch))),
             ],
         );

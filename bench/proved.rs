@@ -1,60 +1,78 @@
 //! The proved library and, where bench/run was given a commit, the one that was built from it (`--cfg before`).
 
+#[allow(dead_code)] // the comparison calls what the benchmark does not
 #[path = "../tests/host.rs"]
 mod host;
 
-pub use host::{check, lookup, words};
-
-#[repr(C)]
-struct Frame {
-    length: u32,
-}
+use host::{Plan, Run};
 
 mod c {
-    use super::Frame;
     unsafe extern "C" {
-        pub(super) safe fn shillingnook_run(
-            frame: Frame,
-            windows: *const u32,
-            window_numbers: usize,
-            rows: *const u32,
-            row_numbers: usize,
-            ticks: *const u32,
-            tick_count: usize,
-            statuses: *const u32,
-            status_count: usize,
-            log: *mut u32,
-            log_words: usize,
-        ) -> usize;
-        pub(super) safe fn shillingnook_driven(frame: Frame, windows: *const u32, window_numbers: usize, rows: *const u32, row_numbers: usize, events: u32) -> u32;
+        pub(super) safe fn shillingnook_driven(length: u32, windows: *const u32, windows_count: u64, rows: *const u32, rows_count: u64, events: u32) -> u32;
     }
 }
 
-pub fn driven(length: u32, windows: &[u32], rows: &[u32], events: u32) -> u32 {
-    c::shillingnook_driven(Frame { length }, windows.as_ptr(), windows.len(), rows.as_ptr(), rows.len(), events)
+/// Number and place.
+pub fn check(length: u32, windows: &[u32], rows: &[u32]) -> (u32, u32) {
+    let mut answer = [0; 3];
+    host::check(Plan { length, windows, rows }, &mut answer);
+    (answer[0], answer[1])
 }
 
+pub fn lookup(length: u32, windows: &[u32], rows: &[u32], t: u32) -> u32 {
+    let mut answer = [0; 4];
+    host::lookup(Plan { length, windows, rows }, t, &mut answer);
+    answer[3]
+}
+
+pub fn words(length: u32, windows: &[u32], rows: &[u32], partition: u32) -> [(u32, u32); 8] {
+    let mut answer = [0; 19];
+    host::words(Plan { length, windows, rows }, partition, &mut answer);
+    std::array::from_fn(|k| (answer[3 + 2 * k], answer[4 + 2 * k]))
+}
+
+pub fn driven(length: u32, windows: &[u32], rows: &[u32], events: u32) -> u32 {
+    c::shillingnook_driven(length, windows.as_ptr(), windows.len() as u64, rows.as_ptr(), rows.len() as u64, events)
+}
+
+/// The same, event by event through the C interface: the state crosses in words each time.
+pub fn driven_in_words(length: u32, windows: &[u32], rows: &[u32], events: u32) -> u32 {
+    let plan = Plan { length, windows, rows };
+    let (mut state, mut answer) = ([0; 8], [0; 5]);
+    host::cold_start(plan, &mut state, &mut answer);
+    for _ in 0..events {
+        if answer[3] == 0 {
+            host::tick(plan, state[2], &mut state, &mut answer);
+        } else {
+            host::status(plan, 0, &mut state, &mut answer);
+        }
+    }
+    state[2]
+}
+
+/// How many calls were written.
 pub fn run(length: u32, windows: &[u32], rows: &[u32], ticks: &[u32], statuses: &[u32], log: &mut [u32]) -> usize {
-    let (w, r, t, s) = (windows.as_ptr(), rows.as_ptr(), ticks.as_ptr(), statuses.as_ptr());
-    c::shillingnook_run(Frame { length }, w, windows.len(), r, rows.len(), t, ticks.len(), s, statuses.len(), log.as_mut_ptr(), log.len())
+    let (mut state, mut counts, mut answer) = ([0; 8], [0; 3], [0; 3]);
+    host::run(Plan { length, windows, rows }, Run { ticks, statuses, log, state: &mut state, counts: &mut counts }, &mut answer);
+    counts[2] as usize
 }
 
 #[cfg(before)]
 pub mod before {
-    use super::{host::Outcome, Frame};
     mod c {
-        use super::{Frame, Outcome};
         unsafe extern "C" {
-            pub(super) safe fn before_shillingnook_check(frame: Frame, windows: *const u32, window_numbers: usize, rows: *const u32, row_numbers: usize) -> Outcome;
-            pub(super) safe fn before_shillingnook_driven(frame: Frame, windows: *const u32, window_numbers: usize, rows: *const u32, row_numbers: usize, events: u32) -> u32;
+            pub(super) safe fn before_shillingnook_check(length: u32, windows: *const u32, windows_count: u64, rows: *const u32, rows_count: u64, answer: *mut u32);
+            pub(super) safe fn before_shillingnook_driven(length: u32, windows: *const u32, windows_count: u64, rows: *const u32, rows_count: u64, events: u32) -> u32;
         }
     }
 
-    pub fn check(length: u32, windows: &[u32], rows: &[u32]) -> Outcome {
-        c::before_shillingnook_check(Frame { length }, windows.as_ptr(), windows.len(), rows.as_ptr(), rows.len())
+    pub fn check(length: u32, windows: &[u32], rows: &[u32]) -> (u32, u32) {
+        let mut answer = [0; 3];
+        c::before_shillingnook_check(length, windows.as_ptr(), windows.len() as u64, rows.as_ptr(), rows.len() as u64, answer.as_mut_ptr());
+        (answer[0], answer[1])
     }
 
     pub fn driven(length: u32, windows: &[u32], rows: &[u32], events: u32) -> u32 {
-        c::before_shillingnook_driven(Frame { length }, windows.as_ptr(), windows.len(), rows.as_ptr(), rows.len(), events)
+        c::before_shillingnook_driven(length, windows.as_ptr(), windows.len() as u64, rows.as_ptr(), rows.len() as u64, events)
     }
 }

@@ -1,4 +1,5 @@
--- The states that the machine makes (document 01, "The machine"). No other file of specs/ or proofs/ writes a state out.
+-- The states that the machine makes (document 01, "The machine"). No other file writes a state out, but
+-- crate `wire`'s, where states come back from words.
 use mathlib.Core.Bool.{Bool, false}
 use Prim.Native.Nat.{ℕ}
 use Rattle.records.specs.declared.WindowNo.{WindowNo}
