@@ -1,4 +1,5 @@
 pub mod Calls
+pub mod InWords
 pub mod Machine
 pub mod Refusals
 pub mod Run
