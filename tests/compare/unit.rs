@@ -1,7 +1,5 @@
 //! A memory protection unit of the ARMv7-M manual, as far as unprivileged accesses go: eight regions that keep what is written to them.
 
-use crate::host::Pair;
-
 #[derive(Clone, Copy, PartialEq, Eq, Debug, Default)]
 pub struct Rights {
     pub read: bool,
@@ -20,11 +18,11 @@ impl Unit {
         Unit { selected: 5, regions: [(0, 31 << 1 | 3 << 24 | 1); 8] }
     }
 
-    pub fn write(&mut self, pair: Pair) {
-        if pair.first & 0x10 != 0 {
-            self.selected = pair.first as usize & 0xF;
+    pub fn write(&mut self, [first, second]: [u32; 2]) {
+        if first & 0x10 != 0 {
+            self.selected = first as usize & 0xF;
         }
-        self.regions[self.selected] = (pair.first & !0x1F, pair.second);
+        self.regions[self.selected] = (first & !0x1F, second);
     }
 
     /// The highest region that covers the address decides.
