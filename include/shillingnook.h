@@ -47,7 +47,8 @@ void shillingnook_words(uint32_t length, const uint32_t *windows, uint64_t windo
                         uint32_t answer[19]);
 
 /* answer[3] is the call that is asked for, 0 for none, and answer[4] its partition. A state is eight words, in the order of sn_state's fields; any eight words may
-   be handed in, and those that are no state, or none that this plan's machine can be in, are refused by 17. */
+   be handed in, and those that are no state, or none that this plan's machine can be in, are refused by 17. It is read by every call, so it has to hold something, whatever
+   that is, also before a cold start or a run. */
 void shillingnook_cold_start(uint32_t length, const uint32_t *windows, uint64_t windows_count, const uint32_t *rows, uint64_t rows_count, uint32_t state[8],
                              uint32_t answer[5]);
 void shillingnook_tick(uint32_t length, const uint32_t *windows, uint64_t windows_count, const uint32_t *rows, uint64_t rows_count, uint32_t tick,
@@ -77,7 +78,7 @@ typedef struct {
     uint32_t partition, base, size, access;
 } sn_row;
 
-/* Counted in records here; rows may be NULL where there are none. */
+/* Counted in records here. windows may not be NULL; rows may, where there are none. */
 typedef struct {
     uint32_t length;
     const sn_window *windows;
