@@ -32,23 +32,37 @@ static uint32_t make_call(uint32_t call, uint32_t partition)
     }
 }
 
-/* Makes call after call until none is asked. */
-static void make_calls(sn_state *state, sn_answer answer)
+static void print_stop(const sn_state *state)
+{
+    if (state->cause == SN_WRONG_TICK)
+        printf("  stopped: tick %" PRIu32 " came, tick %" PRIu32 " was due", state->word, state->due);
+    else if (state->cause == SN_TICK_IN_SWITCH)
+        printf("  stopped: tick %" PRIu32 " came during a switch", state->word);
+    else
+        printf("  stopped: a call failed with status %08" PRIX32, state->word);
+    printf("; nothing may run\n");
+}
+
+/* Makes call after call until none is asked. Answers whether the owner of the current window may now run: not after a refusal, and not once it has stopped. */
+static int make_calls(sn_state *state, sn_answer answer)
 {
     while (answer.number == 0 && answer.call != SN_NONE)
         answer = sn_status(&plan, state, make_call(answer.call, answer.partition));
+    if (answer.number != 0)
+        printf("  refused with %" PRIu32 ", host code %" PRId32 "; nothing may run\n", answer.number, answer.host_code);
+    else if (state->phase == SN_STOPPED)
+        print_stop(state);
+    return answer.number == 0 && state->phase == SN_RUNNING;
 }
 
-static void tick(sn_state *state, uint32_t t)
+static int tick(sn_state *state, uint32_t t)
 {
     const sn_answer answer = sn_tick(&plan, state, t);
-    if (answer.number != 0)
-        printf("tick %" PRIu32 ": refused with %" PRIu32 ", host code %" PRId32 "\n", t, answer.number, answer.host_code);
-    else if (state->phase == SN_STOPPED)
-        printf("tick %" PRIu32 ": stopped, for tick %" PRIu32 " was due; nothing may run\n", t, state->due);
-    else if (answer.call != SN_NONE)
+    if (answer.call != SN_NONE)
         printf("tick %" PRIu32 ": the last of window %" PRIu32 "\n", t, state->current);
-    make_calls(state, answer);
+    else if (answer.number != 0 || state->phase == SN_STOPPED)
+        printf("tick %" PRIu32 "\n", t);
+    return make_calls(state, answer);
 }
 
 int main(void)
@@ -61,9 +75,11 @@ int main(void)
         return 1;
     }
     printf("cold start\n");
-    make_calls(&state, first);
+    if (!make_calls(&state, first))
+        return 1;
     for (t = 0; t < 31; t++)
-        tick(&state, t);
+        if (!tick(&state, t))
+            return 1;
     printf("window %" PRIu32 ", tick %" PRIu32 " is due\n", state.current, state.due);
     tick(&state, 32); /* the timer lost tick 31 */
     tick(&state, 33);

@@ -1,27 +1,33 @@
-/* Shillingnook's C interface (C99 and C++). Link with libhost.a, which `rt staticlib host` writes to target/staticlib.
+/* Shillingnook's C interface (C99 and C++). Link with libhost.a, which `rt staticlib host` writes to target/staticlib (for x86-64).
 
-   The first part declares the library: functions over numbers of 32 bits and lent lists, right under every C calling convention. The second part, the
-   names that begin with sn_, puts structs on top of them, in inline functions; firmware will want those.
+   The first part declares the library: functions over numbers of 32 bits and lent lists. No struct crosses by value, so the declarations do not depend on how a target
+   passes one. The second part, the names that begin with sn_, puts structs on top of them, in inline functions; firmware will want those.
 
-   Who owns what. Everything is the caller's. Lists and arrays are lent for the call and not kept; the library has no memory of its own, allocates nothing,
-   calls nothing and always returns. Two calls may run at once if they share nothing that is written.
+   Who owns what. Everything is the caller's. Lists and arrays are lent for the call and not kept; the library has no memory of its own, allocates nothing, calls nothing and
+   always returns. What is lent to be written (answer, state, counts, log) may not overlap anything else that is lent to the same call. Two calls may run at once if they
+   share nothing that is written: so a state that the timer's interrupt hands to sn_tick wants the timer masked while another call has it.
 
-   What is written when. The answer is written by every call. Beside it, a state and a log are written only where the call is accepted: on a refusal they are as
-   they were. A stop is no refusal: it is accepted, and the state says so.
+   What is written when. The answer is written by every call, and the counts by every run. A state and a log get new contents only where the call is accepted; on a refusal
+   they hold what they held (a state's words may be stored again). A stop is no refusal: it is accepted, and the state says so.
 
    A plan is a frame length and two lists: the windows, three numbers each (owner, offset, budget), and the rows, four numbers each (partition, base, size, access).
-   Every call checks the plan before anything else and refuses a wrong one with the number and the place (the window or the row) of what is wrong first.
+   Every call checks the plan before anything else and refuses a wrong one with the number and the place (the window or the row) of what is wrong first. The check is fastest on
+   rows in the order of their addresses.
 
-   How a switch is driven. A cold start asks for a call; make it, and hand its status word to sn_status, whose answer asks for the next call, until none is asked: then
-   the partition that owns the current window runs. Hand every tick of the timer to sn_tick, in order, 0 to length - 1 and again from 0. At a window's last tick the
-   answer asks to save the running partition; the status of that call brings the swap, the swap's the resume.
+   How a switch is driven. A cold start asks for a call. Make it and hand its status word to sn_status, whose answer asks for the next call, until none is asked and the
+   phase is SN_RUNNING: then the partition that owns the current window runs. Hand every tick of the timer to sn_tick, in order, 0 to length - 1 and again from 0. At a
+   window's last tick the answer asks to save the running partition; the status of that call brings the swap, the swap's the resume.
        SN_SAVE     save the context of that partition
-       SN_SWAP     write the words of sn_words for that partition to the memory protection unit, all eight pairs in their order, with no partition running
-       SN_RESUME   let that partition run
+       SN_SWAP     write the words that sn_words_of gives for that partition to the memory protection unit, all eight pairs in their order, with no partition running;
+                   the barriers, and turning the unit off and on, are the host's
+       SN_RESUME   make that partition the one to return to; hand the status to sn_status, and return to it only when the phase is SN_RUNNING
    A status of 0 says that the call was made; any other word stops the machine.
 
    On a stop (phase SN_STOPPED) let no partition run: a tick came wrong or too early, or a call failed; the state says which. The machine answers every further
-   event with refusal 14. Only a new cold start leaves a stop. */
+   event with refusal 14. Only a new cold start leaves a stop.
+
+   On a refused event nothing has moved. A status with no call open (13) was not asked for, and the machine goes on as if it had not come. After any other number there
+   is no machine to go on with, for the plan (1 to 11) or the state (17) is not what it was at the cold start: let no partition run, and start cold. */
 #ifndef SHILLINGNOOK_H
 #define SHILLINGNOOK_H
 
@@ -34,7 +40,27 @@ extern "C" {
 /* ---- the library
 
    Every list is a pointer and how many numbers there are, not how many records. A list of no numbers still wants a pointer that is not NULL.
-   answer[0] is the refusal's number, answer[1] its place, answer[2] its host code (a negative errno, in two's complement); three zeros where accepted. */
+   answer[0] is the refusal's number, answer[1] its place, answer[2] its host code, in two's complement; three zeros where accepted.
+
+   number and place                                                              host code
+    1  0       window or row count out of range, or a list that ends in a record   -22  EINVAL
+    2  window  budget zero                                                         -22
+    3  window  start wrong                                                         -22
+    4  window  owner above 15                                                       -2  ENOENT
+    5  window  the last end is not the frame length                                -22
+    6  row     partition above 15                                                   -2
+    7  row     size                                                                -22
+    8  row     base                                                                -22
+    9  row     access above 2                                                      -22
+   10  row     ninth row of a partition                                            -28  ENOSPC
+   11  row     clash with an earlier row                                          -112  EADDRINUSE
+   12  0       lookup tick not below the frame length                              -22
+   13  0       status with no call open                                            -11  EAGAIN
+   14  0       machine stopped                                                    -140  ECANCELED
+   15  0       region words for a partition above 15                                -2
+   16  0       log too short                                                       -28
+   17  0       state that no ticks and statuses reach from this plan's cold start    -9  EBADF
+   The codes are an embedded C library's, as Zephyr has them, negated; another <errno.h> may have other values under these names. */
 
 void shillingnook_check(uint32_t length, const uint32_t *windows, uint64_t windows_count, const uint32_t *rows, uint64_t rows_count, uint32_t answer[3]);
 
@@ -57,8 +83,8 @@ void shillingnook_status(uint32_t length, const uint32_t *windows, uint64_t wind
                          uint32_t state[8], uint32_t answer[5]);
 
 /* A whole run from a cold start: the next status where a call is open, else the next tick, until it stops or the list it needs is used up. Each call is two words of
-   the log, the call and its partition; the log needs 4 + 6 * ticks_count words, else refusal 16. state is the end state, counts the ticks used, the statuses used and
-   the calls written, three zeros on a refusal. */
+   the log, the call and its partition; the log needs 4 + 6 * ticks_count words, else refusal 16, and what lies after the last call is as it was. state is the end state,
+   counts the ticks used, the statuses used and the calls written, three zeros on a refusal. */
 void shillingnook_run(uint32_t length, const uint32_t *windows, uint64_t windows_count, const uint32_t *rows, uint64_t rows_count, const uint32_t *ticks,
                       uint64_t ticks_count, const uint32_t *statuses, uint64_t statuses_count, uint32_t *log, uint64_t log_count, uint32_t state[8],
                       uint64_t counts[3], uint32_t answer[3]);
@@ -78,7 +104,11 @@ typedef struct {
     uint32_t partition, base, size, access;
 } sn_row;
 
-/* Counted in records here. windows may not be NULL; rows may, where there are none. */
+/* A list of these is a list of their numbers, one after the other: an array of no length, where a target had it otherwise, would not compile. */
+typedef char sn_window_is_three_numbers[sizeof(sn_window) == 12 ? 1 : -1];
+typedef char sn_row_is_four_numbers[sizeof(sn_row) == 16 ? 1 : -1];
+
+/* Counted in records here. A list may be NULL where there are none; NULL for some is refused with 1. */
 typedef struct {
     uint32_t length;
     const sn_window *windows;
@@ -87,7 +117,7 @@ typedef struct {
     uint32_t row_count;
 } sn_plan;
 
-/* number is 0 where accepted; host_code is a negative errno, or 0. */
+/* number, place and host_code as in the table above; number is 0 where accepted. */
 typedef struct {
     uint32_t number, place;
     int32_t host_code;
@@ -120,25 +150,26 @@ typedef struct {
     uint64_t ticks, statuses, calls;
 } sn_ran;
 
+/* A list of none is lent too, and wants a pointer: the plan's own length will do. */
 static inline const uint32_t *sn_windows_of(const sn_plan *plan)
 {
-    return &plan->windows[0].owner;
+    return plan->windows ? &plan->windows[0].owner : &plan->length;
 }
 
-/* A plan without rows lends a list of none: its windows' pointer will do. */
 static inline const uint32_t *sn_rows_of(const sn_plan *plan)
 {
-    return plan->rows ? &plan->rows[0].partition : sn_windows_of(plan);
+    return plan->rows ? &plan->rows[0].partition : &plan->length;
 }
 
 static inline uint64_t sn_windows_count(const sn_plan *plan)
 {
-    return (uint64_t)3 * plan->window_count;
+    return plan->windows ? (uint64_t)3 * plan->window_count : 0;
 }
 
+/* One number, a list that ends in a record, where rows are counted that are not there. */
 static inline uint64_t sn_rows_count(const sn_plan *plan)
 {
-    return plan->rows ? (uint64_t)4 * plan->row_count : 0;
+    return plan->rows ? (uint64_t)4 * plan->row_count : plan->row_count != 0;
 }
 
 static inline int32_t sn_host_code(uint32_t word)
@@ -213,7 +244,7 @@ static inline sn_words sn_words_of(const sn_plan *plan, uint32_t partition)
     return w;
 }
 
-/* *state need not hold anything; it is left alone on a refusal, and there is then no machine to go on with. */
+/* *state need not hold anything. */
 static inline sn_answer sn_cold_start(const sn_plan *plan, sn_state *state)
 {
     uint32_t words[8] = {0, 0, 0, 0, 0, 0, 0, 0};
@@ -242,7 +273,7 @@ static inline sn_answer sn_status(const sn_plan *plan, sn_state *state, uint32_t
     return sn_answered(said, said[3], said[4]);
 }
 
-/* The lists may not be NULL. *state is the end state, left alone on a refusal. */
+/* The lists may not be NULL, also where they are empty. *state need not hold anything; it is the end state where the run is accepted. */
 static inline sn_ran sn_run(const sn_plan *plan, const uint32_t *ticks, uint64_t ticks_count, const uint32_t *statuses, uint64_t statuses_count, uint32_t *log,
                             uint64_t log_count, sn_state *state)
 {

@@ -17,6 +17,8 @@ static const sn_row rows[] = {{1, 0x20000000, 1024, SN_READ_WRITE}, {2, 0x200003
 static const sn_plan frame_a = {50, windows, 4, 0, 0};
 static const sn_plan one_row = {50, windows, 4, rows, 1};
 static const sn_plan clash = {50, windows, 4, rows, 2};
+static const sn_plan no_windows = {50, 0, 4, rows, 1};
+static const sn_plan missing_rows = {50, windows, 4, 0, 1};
 static const sn_plan longer = {51, windows, 4, rows, 1};
 
 static void plans(void)
@@ -29,7 +31,8 @@ static void plans(void)
     expect("a clash's number", a.number, 11);
     expect("a clash's place", a.place, 1);
     expect("a clash's host code", (uint64_t)-a.host_code, 112);
-    expect("no call", a.call, SN_NONE);
+    expect("windows that are not there", sn_check(&no_windows).number, 1);
+    expect("rows that are not there", sn_check(&missing_rows).number, 1);
     a = sn_lookup(&one_row, 49, &window);
     expect("tick 49's window", window, 3);
     expect("tick 49's number", a.number, 0);

@@ -1,4 +1,5 @@
 -- The three marks are one walk: what differs is which step is called, and what that step answers.
+-- Assumes nothing.
 use mathlib.Core.Path.{_≡_, refl}
 use Prim.Native.Nat.{ℕ}
 use mathlib.Core.List.{[], _∷_, List}

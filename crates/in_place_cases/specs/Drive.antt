@@ -1,4 +1,4 @@
--- A state that is lent four times, to `tick` and to each mark in turn: what each call answers and leaves is the by-value step's, from the state that the call
+-- A state that is lent four times (document 01: "`tick` and the three marks on a four-window state lent and changed in place"), to `tick` and to each mark in turn: what each call answers and leaves is the by-value step's, from the state that the call
 -- before it left.
 use Prim.Native.Nat.{ℕ}
 use Rattle.switcher.specs.declared.Switcher.{Switcher}

@@ -24,7 +24,7 @@ fn put_flag(flag: bool) {
     put(if flag { 1 } else { 0 });
 }
 
-// None of the cases is refused.
+// No case but those of `check` is refused, so this line is never to be seen.
 fn put_refusal(verdict: Verdict) {
     let Verdict::Refused(r) = verdict else {
         return;

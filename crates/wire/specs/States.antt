@@ -1,5 +1,5 @@
--- A state in eight words: current window, target window, due tick, mark, and its phase in four (`phaseWords` of crate `protocol`). Any eight words may come back; those that
--- no state has are no state.
+-- A state in eight words (document 01, "The machine": "a state has the current window, the target window, the due tick, the `swapped` mark and a phase"): the four, then the
+-- phase's four words (`phaseWords` of crate `protocol`). Any eight words may come back; those that no state has are no state.
 use mathlib.Core.Bool.{Bool, true, false, cond, _&&_}
 use mathlib.Core.List.{List, [], _∷_}
 use Prim.Native.Nat.{ℕ}
@@ -13,7 +13,6 @@ use Rattle.protocol.specs.declared.Phase.{Phase}
 use Rattle.protocol.specs.declared.Phase.the-variants.{At, Stopped}
 use Rattle.protocol.specs.declared.PhaseWords.{PhaseWords}
 use Rattle.protocol.specs.Numbers.{phaseOf, phaseWords}
-use Rattle.records.specs.declared.WindowNo.{WindowNo}
 use Rattle.state.specs.declared.State.{State}
 use Rattle.wire.specs.declared.Read.{Read}
 use Rattle.wire.specs.declared.Read.the-variants.{NoState, Is}
@@ -22,11 +21,10 @@ abbrev pub flag : Bool → ℕ
 flag true = 1
 flag false = 0
 
-abbrev pub wordsOf : State → PhaseWords → List ℕ
-wordsOf s w = s .current .0 ∷ s .target .0 ∷ s .due ∷ flag (s .swapped) ∷ w .phase ∷ w .stage ∷ w .cause ∷ w .word ∷ []
-
 abbrev pub stateWords : State → List ℕ
-stateWords s = wordsOf s (phaseWords (s .phase))
+stateWords s =
+    let w = phaseWords (s .phase) in
+    s .current .0 ∷ s .target .0 ∷ s .due ∷ flag (s .swapped) ∷ w .phase ∷ w .stage ∷ w .cause ∷ w .word ∷ []
 
 -- the state that words would be, if they are one's
 abbrev pub stageAt : ℕ → Stage

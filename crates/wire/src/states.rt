@@ -1,6 +1,6 @@
 // States in words, and back.
 ghost use mathlib.Core.Path.{_≡_};
-ghost use Rattle.wire.specs.States.{flag, stateWords, stageAt, causeAt, phaseAt, fourAt, stateAt, samePhase, isState, readState};
+ghost use Rattle.wire.specs.States.{flag, stateWords, stageAt, causeAt, phaseAt, samePhase, readState};
 use crate::Read;
 use protocol::Cause;
 use protocol::Phase;

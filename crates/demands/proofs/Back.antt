@@ -2,12 +2,11 @@
 -- Assumes nothing.
 use mathlib.Core.Bool.{Bool, true, false, cond, _&&_, true≢false}
 use mathlib.Core.List.{List, [], _∷_}
-use mathlib.Core.Logic.{_↔_}
-use mathlib.Core.Path.{_≡_, refl, sym, ap, _∙_, subst}
+use mathlib.Core.Path.{_≡_, refl, sym, ap, _∙_}
 use Prim.Native.Nat.{ℕ, zero, suc, _<_}
 use native.Mathlib.Omega.{arith}
 use lib.Dec.{eqb, ltb}
-use borrow.Author.Tests.{eq-eqb, eqb-true, ltb-true, lt-ltb, ne-eqb}
+use borrow.Author.Tests.{eq-eqb, eqb-true, ltb-true}
 use Rattle.protocol.specs.declared.Stage.{Stage}
 use Rattle.protocol.specs.declared.Stage.the-variants.{Running, SaveCtx, ProgramRegions, Resume}
 use Rattle.protocol.specs.declared.Cause.the-variants.{WrongTick, TickInSwitch, BadStatus}
@@ -16,10 +15,10 @@ use Rattle.protocol.specs.declared.Phase.the-variants.{At, Stopped}
 use Rattle.protocol.specs.declared.PhaseWords.{PhaseWords}
 use Rattle.protocol.specs.Numbers.{stageNumber, phaseWords}
 use Rattle.state.specs.declared.State.{State}
 use Rattle.wire.specs.declared.Read.{Read}
 use Rattle.wire.specs.declared.Read.the-variants.{NoState, Is}
 use Rattle.wire.specs.States.{flag, stateWords, stageAt, phaseAt, fourAt, stateAt, samePhase, isState, readState}
-use Rattle.wire.specs.Back.{eight, StatesInWords}
+use Rattle.demands.specs.Back.{eight, StatesInWords}
 
 stage-back : (stage : Stage) → stageAt (stageNumber stage) ≡ stage
 stage-back Running = refl

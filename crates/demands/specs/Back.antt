@@ -1,12 +1,13 @@
--- States that go out in words and come back. What eight words are read as is a state exactly if they are that state's words: so a state that goes out and comes back is the
--- same state, and words that no state has (a phase or a cause that does not exist, a mark that is neither 0 nor 1, a word where that phase has none) are none.
+-- States that go out in words and come back (document 01, "The machine", and "any plan, tick, status word or state may arrive"). What eight words are read as is a state exactly
+-- if they are that state's words: so a state that goes out and comes back is the same state, and words that no state has (a phase or a cause that does not exist, a mark that is
+-- neither 0 nor 1, a word where that phase has none) are none.
 use mathlib.Core.List.{List, [], _∷_}
 use mathlib.Core.Logic.{_↔_}
 use mathlib.Core.Path.{_≡_}
 use Prim.Native.Nat.{ℕ}
 use Rattle.state.specs.declared.State.{State}
 use Rattle.wire.specs.declared.Read.the-variants.{NoState, Is}
 use Rattle.wire.specs.States.{stateWords, readState}
 
 abbrev pub eight : (current target due mark phase stage cause word : ℕ) → List ℕ
 eight current target due mark phase stage cause word = current ∷ target ∷ due ∷ mark ∷ phase ∷ stage ∷ cause ∷ word ∷ []
