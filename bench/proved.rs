@@ -8,7 +8,7 @@ use host::{Plan, Run};
 
 mod c {
     unsafe extern "C" {
-        pub(super) safe fn shillingnook_driven(length: u32, windows: *const u32, windows_count: u64, rows: *const u32, rows_count: u64, events: u32) -> u32;
+        pub(super) fn shillingnook_driven(length: u32, windows: *const u32, windows_count: u64, rows: *const u32, rows_count: u64, events: u32) -> u32;
     }
 }
 
@@ -32,7 +32,8 @@ pub fn words(length: u32, windows: &[u32], rows: &[u32], partition: u32) -> [(u3
 }
 
 pub fn driven(length: u32, windows: &[u32], rows: &[u32], events: u32) -> u32 {
-    c::shillingnook_driven(length, windows.as_ptr(), windows.len() as u64, rows.as_ptr(), rows.len() as u64, events)
+    // SAFETY: both lists are lent for the call with their counts.
+    unsafe { c::shillingnook_driven(length, windows.as_ptr(), windows.len() as u64, rows.as_ptr(), rows.len() as u64, events) }
 }
 
 /// The same, event by event through the C interface: the state crosses in words each time.
@@ -61,18 +62,20 @@ pub fn run(length: u32, windows: &[u32], rows: &[u32], ticks: &[u32], statuses: 
 pub mod before {
     mod c {
         unsafe extern "C" {
-            pub(super) safe fn before_shillingnook_check(length: u32, windows: *const u32, windows_count: u64, rows: *const u32, rows_count: u64, answer: *mut u32);
-            pub(super) safe fn before_shillingnook_driven(length: u32, windows: *const u32, windows_count: u64, rows: *const u32, rows_count: u64, events: u32) -> u32;
+            pub(super) fn before_shillingnook_check(length: u32, windows: *const u32, windows_count: u64, rows: *const u32, rows_count: u64, answer: *mut u32);
+            pub(super) fn before_shillingnook_driven(length: u32, windows: *const u32, windows_count: u64, rows: *const u32, rows_count: u64, events: u32) -> u32;
         }
     }
 
     pub fn check(length: u32, windows: &[u32], rows: &[u32]) -> (u32, u32) {
         let mut answer = [0; 3];
-        c::before_shillingnook_check(length, windows.as_ptr(), windows.len() as u64, rows.as_ptr(), rows.len() as u64, answer.as_mut_ptr());
+        // SAFETY: both lists are lent for the call with their counts, and the array is as long as the function writes.
+        unsafe { c::before_shillingnook_check(length, windows.as_ptr(), windows.len() as u64, rows.as_ptr(), rows.len() as u64, answer.as_mut_ptr()) };
         (answer[0], answer[1])
     }
 
     pub fn driven(length: u32, windows: &[u32], rows: &[u32], events: u32) -> u32 {
-        c::before_shillingnook_driven(length, windows.as_ptr(), windows.len() as u64, rows.as_ptr(), rows.len() as u64, events)
+        // SAFETY: both lists are lent for the call with their counts.
+        unsafe { c::before_shillingnook_driven(length, windows.as_ptr(), windows.len() as u64, rows.as_ptr(), rows.len() as u64, events) }
     }
 }
