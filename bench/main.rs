@@ -130,13 +130,11 @@ fn events() {
         let (w, r) = (&windows[..], &rows[..]);
         let batch = if r.is_empty() { 100_000 } else { 2_000 };
         assert_eq!(proved::driven(length, w, r, batch), ordinary::driven::<true>(length, w, r, batch));
-        assert_eq!(proved::driven(length, w, r, batch), proved::driven_in_words(length, w, r, batch));
         compare(
             &format!("an event, {name}"),
             batch,
             vec![
                 repeat("proved", 1, || proved::driven(length, w, r, black_box(batch))),
-                repeat("proved, in words", 1, || proved::driven_in_words(length, w, r, black_box(batch))),
                 repeat("ordinary", 1, || ordinary::driven::<true>(length, w, r, black_box(batch))),
             ],
         );

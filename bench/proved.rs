@@ -6,12 +6,6 @@ mod host;
 
 use host::{Plan, Run};
 
-mod c {
-    unsafe extern "C" {
-        pub(super) fn shillingnook_driven(length: u32, windows: *const u32, windows_count: u64, rows: *const u32, rows_count: u64, events: u32) -> u32;
-    }
-}
-
 /// Number and place.
 pub fn check(length: u32, windows: &[u32], rows: &[u32]) -> (u32, u32) {
     let mut answer = [0; 3];
@@ -31,24 +25,26 @@ pub fn words(length: u32, windows: &[u32], rows: &[u32], partition: u32) -> [(u3
     std::array::from_fn(|k| (answer[3 + 2 * k], answer[4 + 2 * k]))
 }
 
-pub fn driven(length: u32, windows: &[u32], rows: &[u32], events: u32) -> u32 {
-    // SAFETY: both lists are lent for the call with their counts.
-    unsafe { c::shillingnook_driven(length, windows.as_ptr(), windows.len() as u64, rows.as_ptr(), rows.len() as u64, events) }
-}
+type State = [u32; 8];
+type Answer = [u32; 5];
 
-/// The same, event by event through the C interface: the state crosses in words each time.
-pub fn driven_in_words(length: u32, windows: &[u32], rows: &[u32], events: u32) -> u32 {
-    let plan = Plan { length, windows, rows };
+/// The due tick after a cold start and so many events: each open call is answered with zero, each tick is the due one.
+fn driven_by(events: u32, cold_start: impl Fn(&mut State, &mut Answer), tick: impl Fn(u32, &mut State, &mut Answer), zero: impl Fn(&mut State, &mut Answer)) -> u32 {
     let (mut state, mut answer) = ([0; 8], [0; 5]);
-    host::cold_start(plan, &mut state, &mut answer);
+    cold_start(&mut state, &mut answer);
     for _ in 0..events {
         if answer[3] == 0 {
-            host::tick(plan, state[2], &mut state, &mut answer);
+            tick(state[2], &mut state, &mut answer);
         } else {
-            host::status(plan, 0, &mut state, &mut answer);
+            zero(&mut state, &mut answer);
         }
     }
     state[2]
+}
+
+pub fn driven(length: u32, windows: &[u32], rows: &[u32], events: u32) -> u32 {
+    let plan = Plan { length, windows, rows };
+    driven_by(events, |s, a| host::cold_start(plan, s, a), |t, s, a| host::tick(plan, t, s, a), |s, a| host::status(plan, 0, s, a))
 }
 
 /// How many calls were written.
@@ -63,7 +59,15 @@ pub mod before {
     mod c {
         unsafe extern "C" {
             pub(super) fn before_shillingnook_check(length: u32, windows: *const u32, windows_count: u64, rows: *const u32, rows_count: u64, answer: *mut u32);
-            pub(super) fn before_shillingnook_driven(length: u32, windows: *const u32, windows_count: u64, rows: *const u32, rows_count: u64, events: u32) -> u32;
+            pub(super) fn before_shillingnook_cold_start(
+                length: u32, windows: *const u32, windows_count: u64, rows: *const u32, rows_count: u64, state: *mut u32, answer: *mut u32,
+            );
+            pub(super) fn before_shillingnook_tick(
+                length: u32, windows: *const u32, windows_count: u64, rows: *const u32, rows_count: u64, tick: u32, state: *mut u32, answer: *mut u32,
+            );
+            pub(super) fn before_shillingnook_status(
+                length: u32, windows: *const u32, windows_count: u64, rows: *const u32, rows_count: u64, status: u32, state: *mut u32, answer: *mut u32,
+            );
         }
     }
 
@@ -75,7 +79,13 @@ pub mod before {
     }
 
     pub fn driven(length: u32, windows: &[u32], rows: &[u32], events: u32) -> u32 {
-        // SAFETY: both lists are lent for the call with their counts.
-        unsafe { c::before_shillingnook_driven(length, windows.as_ptr(), windows.len() as u64, rows.as_ptr(), rows.len() as u64, events) }
+        let (w, wn, r, rn) = (windows.as_ptr(), windows.len() as u64, rows.as_ptr(), rows.len() as u64);
+        // SAFETY, of all three: both lists are lent for the call with their counts, and the arrays are as long as the functions write.
+        super::driven_by(
+            events,
+            |s, a| unsafe { c::before_shillingnook_cold_start(length, w, wn, r, rn, s.as_mut_ptr(), a.as_mut_ptr()) },
+            |t, s, a| unsafe { c::before_shillingnook_tick(length, w, wn, r, rn, t, s.as_mut_ptr(), a.as_mut_ptr()) },
+            |s, a| unsafe { c::before_shillingnook_status(length, w, wn, r, rn, 0, s.as_mut_ptr(), a.as_mut_ptr()) },
+        )
     }
 }

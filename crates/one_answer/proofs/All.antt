@@ -79,7 +79,6 @@ use Rattle.in_place.proofs.mark_swapped as in-place-mark-swapped
 use Rattle.in_place.proofs.mark_resumed as in-place-mark-resumed
 use Rattle.promise.proofs.of_any_plan.Reads as promise-of-any-plan
 use Rattle.promise.proofs.of_any_state.Reads as promise-of-any-state
-use Rattle.drive.proofs.shillingnook_driven.Reads as drive-shillingnook-driven
 use Rattle.wire.proofs.verdict_words.Reads as wire-verdict-words
 use Rattle.wire.proofs.answer_words.Reads as wire-answer-words
 use Rattle.wire.proofs.state_words.Reads as wire-state-words
@@ -292,9 +291,6 @@ promise-of-any-plan-one κs xs r r′ ends ends′ e e′ = refl
 
 pub promise-of-any-state-one : OneAnswer promise-of-any-state.Post
 promise-of-any-state-one κs xs r r′ ends ends′ e e′ = refl
-
-pub drive-shillingnook-driven-one : OneAnswer drive-shillingnook-driven.Post
-drive-shillingnook-driven-one κs xs r r′ ends ends′ e e′ = both e e′
 
 pub wire-verdict-words-one : OneAnswer wire-verdict-words.Post
 wire-verdict-words-one κs xs r r′ ends ends′ e e′ = both e e′
