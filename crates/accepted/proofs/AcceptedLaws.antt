@@ -9,8 +9,8 @@ use native.Mathlib.Omega.{arith}
 use lib.Count.{ones}
 use lib.ListN.{length}
 use Rattle.refusal.specs.declared.Verdict.the-variants.{Accepted}
-use Rattle.refusal.specs.First.{firstFault}
-use Rattle.refusal.proofs.First.{refuses-if, both-accept, each-accepts, all-accept}
+use Rattle.verdict.specs.First.{firstFault}
+use Rattle.verdict.proofs.First.{refuses-if, both-accept, each-accepts, all-accept}
 use Rattle.refusal.proofs.Tests.{equal, positive, at-most}
 use Rattle.records.specs.declared.Window.{Window}
 use Rattle.plan.specs.Plan.{Plan, frameLength, windowCount, rowCount, windowOf, rowOf, offsetOf, budgetOf, ownerOf}

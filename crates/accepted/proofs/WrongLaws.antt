@@ -8,7 +8,7 @@ use lib.ListN.{getD}
 use Rattle.refusal.specs.declared.Refusal.{Refusal}
 use Rattle.refusal.specs.declared.Refusal.the-variants.{Counts, ZeroBudget, WrongStart, UnknownOwner, WrongLength, UnknownPartition, BadSize, BadBase, BadAccess, NinthRow, Clash, TickPastFrame, NoCallOpen, MachineStopped, NoWordsFor, LogTooShort, StrangeState}
 use Rattle.refusal.specs.declared.Verdict.the-variants.{Refused}
-use Rattle.refusal.proofs.First.{refuses-if}
+use Rattle.verdict.proofs.First.{refuses-if}
 use Rattle.refusal.proofs.Tests.{equal, at-most, neither, found, same, above}
 use Rattle.plan.specs.Plan.{Plan, frameLength, windowOf, ownerOf, offsetOf, budgetOf, rowOf}
 use Rattle.records.specs.Records.{maxPartition, endOf, startOf}

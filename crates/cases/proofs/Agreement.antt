@@ -8,7 +8,7 @@ use native.Mathlib.Decide.{decLt}
 use native.Mathlib.Omega.{arith}
 use Rattle.refusal.specs.declared.Verdict.{Verdict}
 use Rattle.refusal.specs.declared.Verdict.the-variants.{Accepted, Refused}
-use Rattle.refusal.proofs.First.{never-both}
+use Rattle.verdict.proofs.First.{never-both}
 use Rattle.timeline.specs.Windows.{Follow}
 use Rattle.timeline.proofs.Laws.{follow-same, window-at-same}
 use Rattle.major_frame.specs.declared.MajorFrame.{MajorFrame}

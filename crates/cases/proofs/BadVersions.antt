@@ -10,10 +10,11 @@ use native.Mathlib.Omega.{arith}
 use lib.ListN.{take, replicate}
 use Rattle.refusal.specs.declared.Verdict.{Verdict}
 use Rattle.refusal.specs.declared.Verdict.the-variants.{Accepted, Refused}
-use Rattle.refusal.specs.Table.{outcome}
-use Rattle.refusal.proofs.First.{never-both}
-use Rattle.refusal.proofs.Table.{same-outcome}
-use Rattle.refusal.specs.First.{refuseIf, orElse, refused, firstFault, upward, testAt, firstOf}
+use Rattle.verdict.specs.Outcome.{outcome}
+use Rattle.verdict.proofs.First.{never-both}
+use Rattle.verdict.proofs.Outcome.{same-outcome}
+use Rattle.refusal.specs.First.{refuseIf, orElse}
+use Rattle.verdict.specs.First.{refused, firstFault, upward, testAt, firstOf}
 use Rattle.timeline.specs.Windows.{nextWindow, nextTick}
 use Rattle.rows.specs.Rows.{rowsOf}
 use Rattle.rows.specs.Tests.{wrongRowCount}
@@ -23,10 +24,10 @@ use Rattle.lookup.specs.declared.Located.{Located}
 use Rattle.protocol.specs.declared.PhaseWords.{PhaseWords}
 use Rattle.protocol.specs.declared.Phase.{Phase}
 use Rattle.protocol.specs.Numbers.{phaseWords}
-use Rattle.guard.specs.Guard.{placedAt, fitsAt, stateVerdict, guardOf}
+use Rattle.machine.specs.Guard.{placedAt, fitsAt, stateVerdict, guardOf}
 use Rattle.state.specs.Start.{coldMove, ifAccepted, coldOf}
-use Rattle.switch.specs.Step.{tickTaken, tickAt, tickIn, tickMove, zeroAt, replyAt, statusAt, statusIn, statusMove}
-use Rattle.switch.specs.Machine.{tickOf, statusVerdict, statusOf}
+use Rattle.machine.specs.Step.{tickTaken, tickAt, tickIn, tickMove, zeroAt, replyAt, statusAt, statusIn, statusMove}
+use Rattle.machine.specs.Machine.{tickOf, statusVerdict, statusOf}
 use Rattle.history.specs.Reached.{Event, tick, status, ticksOf, statusesOf}
 use Rattle.history.specs.History.{Entry, called, answered, machineOf, history}
 use Rattle.history.proofs.HistoryLaws.{start-phase}

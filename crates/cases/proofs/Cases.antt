@@ -5,7 +5,8 @@ use mathlib.Core.Path.{refl, ap}
 use native.Mathlib.Omega.{arith}
 use lib.Count.{ones, trailingZeros}
 use lib.ListN.{getD}
-use Rattle.refusal.specs.First.{refuseIf, orElse, refused, firstFault, upward, testAt, firstOf}
+use Rattle.refusal.specs.First.{refuseIf, orElse}
+use Rattle.verdict.specs.First.{refused, firstFault, upward, testAt, firstOf}
 use Rattle.timeline.specs.Windows.{holdsb, windowAt, nextWindow, nextTick}
 use Rattle.timeline.specs.Lookup.{lookupVerdict}
 use Rattle.row.specs.Tests.{sharesAddress, clashes}
@@ -15,12 +16,12 @@ use Rattle.major_frame.specs.Frame.{windowFault, windowTest, lengthTest, frameV
 use Rattle.switcher.specs.Switch.{made, newOf}
 use Rattle.plan.specs.Faults.{wrongCounts, wrong, pastCounts, order, verdictOf}
 use Rattle.lookup.specs.Lookup.{lookupOf}
-use Rattle.guard.specs.Guard.{placedAt, fitsAt, stateVerdict, guardOf}
+use Rattle.machine.specs.Guard.{placedAt, fitsAt, stateVerdict, guardOf}
 use Rattle.state.specs.Start.{ifAccepted, coldMove, coldOf}
-use Rattle.switch.specs.Step.{tickTaken, tickAt, tickIn, tickMove, zeroAt, replyAt, statusIn, statusMove}
-use Rattle.switch.specs.Machine.{tickOf, statusVerdict, statusOf}
+use Rattle.machine.specs.Step.{tickTaken, tickAt, tickIn, tickMove, zeroAt, replyAt, statusIn, statusMove}
+use Rattle.machine.specs.Machine.{tickOf, statusVerdict, statusOf}
 use Rattle.log.specs.Log.{tooShort, logged, callsLogged}
-use Rattle.run.specs.Run.{tickTurn, statusTurn, turn, goOn, runVerdict, runOf, logOf}
+use Rattle.machine.specs.Run.{tickTurn, statusTurn, turn, goOn, runVerdict, runOf, logOf}
 use Rattle.words.specs.declared.Pair.{Pair}
 use Rattle.words.specs.Slots.{write, Slot, atSlot}
 use Rattle.words.specs.Manual.{decode}

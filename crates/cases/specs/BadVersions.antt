@@ -25,8 +25,8 @@ use Rattle.state.specs.Start.{coldOf}
 use Rattle.history.specs.Reached.{Event, tick, status}
 use Rattle.history.specs.History.{Machine, answerOf}
 use Rattle.demands.specs.Machine.{CheckAccepts, Sentences}
-use Rattle.run.specs.declared.RunAnswer.{RunAnswer}
-use Rattle.run.specs.Run.{runOf, logOf}
+use Rattle.machine.specs.declared.RunAnswer.{RunAnswer}
+use Rattle.machine.specs.Run.{runOf, logOf}
 use Rattle.demands.specs.Refusals.{RightVerdict, RightWindow}
 use Rattle.demands.specs.Run.{IsTheMachine}
 

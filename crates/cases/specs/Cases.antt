@@ -4,7 +4,7 @@ use mathlib.Core.List.{List, [], _∷_, _++_}
 use mathlib.Core.Path.{_≡_}
 use Prim.Native.Nat.{ℕ}
 use lib.ListN.{replicate}
-use Rattle.refusal.specs.Table.{outcome}
+use Rattle.verdict.specs.Outcome.{outcome}
 use Rattle.major_frame.specs.declared.MajorFrame.{MajorFrame}
 use Rattle.major_frame.specs.Frame.{currentWindow}
 use Rattle.switcher.specs.Switch.{zeros, newOf}
@@ -13,8 +13,8 @@ use Rattle.plan.specs.Faults.{verdictOf}
 use Rattle.lookup.specs.Lookup.{lookupOf}
 use Rattle.protocol.specs.declared.PhaseWords.{PhaseWords}
 use Rattle.protocol.specs.Numbers.{phaseOf, phaseWords}
-use Rattle.run.specs.declared.RunAnswer.{RunAnswer}
-use Rattle.run.specs.Run.{runOf, logOf}
+use Rattle.machine.specs.declared.RunAnswer.{RunAnswer}
+use Rattle.machine.specs.Run.{runOf, logOf}
 use Rattle.words.specs.declared.Pair.{Pair}
 use Rattle.words.specs.Slots.{write, Reachable}
 use Rattle.words.specs.Words.{wordsOf, slotsUnder}

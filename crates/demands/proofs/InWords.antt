@@ -4,14 +4,14 @@ use mathlib.Core.Path.{_≡_, refl, sym, ap, _∙_, subst}
 use Rattle.refusal.specs.declared.Refusal.the-variants.{StrangeState}
 use Rattle.refusal.specs.declared.Verdict.{Verdict}
 use Rattle.refusal.specs.declared.Verdict.the-variants.{Accepted, Refused}
-use Rattle.refusal.specs.Table.{outcome}
+use Rattle.verdict.specs.Outcome.{outcome}
 use Rattle.refusal.specs.First.{orElse}
-use Rattle.refusal.proofs.First.{answers, answers-else}
+use Rattle.verdict.proofs.First.{answers, answers-else}
 use Rattle.plan.specs.Plan.{Plan}
 use Rattle.plan.specs.Faults.{verdictOf}
 use Rattle.state.specs.declared.State.{State}
 use Rattle.state.specs.declared.Answer.{Answer}
-use Rattle.switch.specs.Machine.{tickOf, statusOf}
+use Rattle.machine.specs.Machine.{tickOf, statusOf}
 use Rattle.history.specs.Reached.{Event, tick, status}
 use Rattle.history.specs.History.{answerOf}
 use Rattle.history.proofs.Answers.{refused-changes-nothing}

@@ -9,8 +9,8 @@ use Prim.Native.Nat.{ℕ, _+_}
 use native.Mathlib.Omega.{arith}
 use Rattle.refusal.specs.declared.Refusal.the-variants.{MachineStopped}
 use Rattle.refusal.specs.declared.Verdict.the-variants.{Accepted}
-use Rattle.refusal.specs.Table.{outcome}
-use Rattle.refusal.proofs.Table.{same-outcome}
+use Rattle.verdict.specs.Outcome.{outcome}
+use Rattle.verdict.proofs.Outcome.{same-outcome}
 use Rattle.timeline.specs.Windows.{Holds}
 use Rattle.timeline.proofs.Laws.{share-no-tick}
 use Rattle.plan.specs.Plan.{Plan, ownerOf, offsetOf, budgetOf}
@@ -33,12 +33,12 @@ use Rattle.state.specs.declared.Answer.{Answer}
 use Rattle.state.specs.State.{inPhase, stopped}
 use Rattle.state.specs.Answer.{owner}
 use Rattle.state.specs.Start.{coldMove, coldOf}
-use Rattle.switch.specs.Step.{timetableOf}
+use Rattle.machine.specs.Step.{timetableOf}
 use Rattle.history.specs.Cases.{TickCase, window-goes-on, window-ends, wrong-tick, tick-in-a-switch, tick-too-late, StatusCase, saved, programmed, runs-again, bad-status, status-unasked-for, status-too-late}
 use Rattle.history.specs.Reached.{Event, tick, status, wordOf}
 use Rattle.history.specs.History.{machineOf, called, answered, History, answerOf, begin, goOn, next, since, history, openCall}
 use Rattle.history.proofs.Cases.{tick-case, status-case}
-use Rattle.guard.proofs.FitsLaws.{FitsPhase, Fits}
+use Rattle.machine.proofs.FitsLaws.{FitsPhase, Fits}
 use Rattle.history.proofs.Answers.{too-late, on-tick, on-status, unasked, refused-not-counted, zero-swaps, zero-resumes, zero-runs}
 use Rattle.history.proofs.EqualLaws.{same-history}
 use Rattle.state.proofs.StartLaws.{cold-accepted}

@@ -1,5 +1,5 @@
 -- The tests of the guard, of the lookup and of the words in document 01's numbers: the test of a state is `Reached` (crate `history`,
--- proofs/Exact.antt), and an outcome tells its verdict (crate `refusal`, proofs/Table.antt).
+-- proofs/Exact.antt), and an outcome tells its verdict (crate `verdict`, proofs/Outcome.antt).
 -- Assumes nothing.
 use mathlib.Core.Bool.{Bool, true, false, false≢true}
 use mathlib.Core.Path.{_≡_, refl, sym, ap, _∙_}
@@ -10,8 +10,8 @@ use Rattle.refusal.specs.declared.Refusal.{Refusal}
 use Rattle.refusal.specs.declared.Refusal.the-variants.{MachineStopped, StrangeState}
 use Rattle.refusal.specs.declared.Verdict.{Verdict}
 use Rattle.refusal.specs.declared.Verdict.the-variants.{Accepted, Refused}
-use Rattle.refusal.specs.Table.{outcome}
-use Rattle.refusal.proofs.Table.{same-outcome}
+use Rattle.verdict.specs.Outcome.{outcome}
+use Rattle.verdict.proofs.Outcome.{same-outcome}
 use Rattle.plan.specs.Plan.{Plan, windowCount}
 use Rattle.plan.specs.Faults.{verdictOf}
 use Rattle.accepted.specs.Accepted as plan
@@ -27,15 +27,15 @@ use Rattle.protocol.specs.Numbers.{callWords}
 use Rattle.state.specs.declared.State.{State}
 use Rattle.state.specs.declared.Answer.{Answer}
 use Rattle.state.specs.Start.{coldMove}
-use Rattle.guard.specs.Guard.{fits, guardOf}
+use Rattle.machine.specs.Guard.{fits, guardOf}
 use Rattle.history.specs.Reached.{Event, tick, status, Reached}
 use Rattle.history.specs.History.{answerOf}
 use Rattle.history.proofs.Answers.{step-accepts, refused-changes-nothing, refused-not-counted}
 use Rattle.history.proofs.Exact.{let-in-exactly, let-in-by-words}
-use Rattle.guard.proofs.GuardLaws.{guard-plan, guard-strange, guard-stopped, guard-accepted}
+use Rattle.machine.proofs.GuardLaws.{guard-plan, guard-strange, guard-stopped, guard-accepted}
 use Rattle.history.proofs.HistoryLaws.{history-leads}
 use Rattle.state.proofs.StartLaws.{cold-refused}
-use Rattle.switch.proofs.MachineLaws.{tick-refused, tick-accepted, status-refused, status-unasked, status-accepted}
+use Rattle.machine.proofs.MachineLaws.{tick-refused, tick-accepted, status-refused, status-unasked, status-accepted}
 use Rattle.demands.specs.Machine.{CheckAccepts}
 use Rattle.demands.specs.Refusals.{RightVerdict, RightWindow, WordsRefusals, isStatus, outcomeOf, EventRefusals, StrangeExactly, SameStates, ChangesNothing, Demand1}
 use Rattle.demands.proofs.Machine.{accepts, stopped-number, running-number}

@@ -27,7 +27,8 @@ use Rattle.protocol.specs.Phase.{callOpen, isStopped}
 use Rattle.protocol.specs.Numbers.{swapFor, callWords, phaseWords}
 use Rattle.refusal.specs.declared.Refusal.{Refusal}
 use Rattle.refusal.specs.declared.Refusal.the-variants.{LogTooShort}
-use Rattle.refusal.specs.Table.{numberOf, placeOf, outcome}
+use Rattle.refusal.specs.Table.{numberOf, placeOf}
+use Rattle.verdict.specs.Outcome.{outcome}
 use Rattle.refusal.specs.declared.Verdict.{Verdict}
 use Rattle.refusal.specs.declared.Verdict.the-variants.{Accepted, Refused}
 use Rattle.log.specs.Log.{asks, logged, callsLogged, callLog}
@@ -35,7 +36,7 @@ use Rattle.log.proofs.LogLaws.{too-few, long-enough, stays, grows, one-call-mor
 use Rattle.state.specs.declared.State.{State}
 use Rattle.state.specs.declared.Answer.{Answer}
 use Rattle.state.specs.Start.{coldMove}
-use Rattle.switch.specs.Step.{timetableOf}
+use Rattle.machine.specs.Step.{timetableOf}
 use Rattle.history.specs.Reached.{Event, tick, status, ticksOf, statusesOf}
 use Rattle.history.specs.History.{Machine, machineOf, Entry, History, answerOf, counted, goOn, heard, said, next, since, history}
 use Rattle.history.specs.Cases.{TickCase, window-goes-on, window-ends, wrong-tick, tick-in-a-switch, tick-too-late, StatusCase, saved, programmed, runs-again, bad-status, status-unasked-for, status-too-late}
@@ -44,12 +45,12 @@ use Rattle.history.proofs.Cases.{tick-case, status-case}
 use Rattle.history.proofs.Answers.{too-late, on-tick, on-status, unasked}
 use Rattle.history.proofs.HistoryLaws.{Inv, since-on, start-is, history-inv}
 use Rattle.history.proofs.CallLaws.{call-swap, calls-are-the-plans, calls-at-most, length-first}
-use Rattle.guard.proofs.FitsLaws.{Fits}
+use Rattle.machine.proofs.FitsLaws.{Fits}
 use Rattle.demands.specs.Machine.{HasStopped, Open, Sentences}
-use Rattle.run.specs.declared.Course.{Course}
-use Rattle.run.specs.declared.RunAnswer.{RunAnswer}
-use Rattle.run.proofs.RunLaws.{no-tick, takes-tick, no-status, takes-status, turn-stopped, turn-open, turn-quiet, one-turn-fewer, one-turn-more, all-done, plan-first, then-16, runs-refused, runs-whole, let-in}
-use Rattle.run.specs.Run.{endOfRun, took, turn, Progress, progress, withLogged, goOn as goOnRun, left, ended, runVerdict, coldCourse, whole, runOf, logOf}
+use Rattle.machine.specs.declared.Course.{Course}
+use Rattle.machine.specs.declared.RunAnswer.{RunAnswer}
+use Rattle.machine.proofs.RunLaws.{no-tick, takes-tick, no-status, takes-status, turn-stopped, turn-open, turn-quiet, one-turn-fewer, one-turn-more, all-done, plan-first, then-16, runs-refused, runs-whole, let-in}
+use Rattle.machine.specs.Run.{endOfRun, took, turn, Progress, progress, withLogged, goOn as goOnRun, left, ended, runVerdict, coldCourse, whole, runOf, logOf}
 use Rattle.demands.specs.Run.{Next, ByTheRule, AtTheEnd, stoppingTick, IsTheMachine, RunsAreTheMachine, SentencesAt, RunsMeetDemand3, RunRefused, RefusedRuns}
 use Rattle.demands.proofs.Machine.{accepts, stopped-number, not-open, is-open, demand-3}
 use Rattle.demands.proofs.Refusals.{told, accepted}

@@ -6,12 +6,12 @@ use mathlib.Core.Path.{_≡_}
 use Prim.Native.Nat.{ℕ}
 use Rattle.refusal.specs.declared.Refusal.{Refusal}
 use Rattle.refusal.specs.declared.Verdict.the-variants.{Refused}
-use Rattle.refusal.specs.Table.{outcome}
+use Rattle.verdict.specs.Outcome.{outcome}
 use Rattle.plan.specs.Plan.{Plan}
 use Rattle.plan.specs.Faults.{verdictOf}
 use Rattle.state.specs.declared.State.{State}
 use Rattle.state.specs.declared.Answer.{Answer}
-use Rattle.switch.specs.Machine.{tickOf, statusOf}
+use Rattle.machine.specs.Machine.{tickOf, statusOf}
 use Rattle.wire.specs.declared.Read.the-variants.{NoState}
 use Rattle.wire.specs.States.{stateWords, readState}
 use Rattle.in_words.specs.Events.{tickInWords, statusInWords, leftWords}

@@ -7,7 +7,7 @@ use mathlib.Core.List.{List, [], _∷_, _++_}
 use mathlib.Core.Logic.{_⊎_}
 use mathlib.Core.Path.{_≡_}
 use Prim.Native.Nat.{ℕ, zero, suc, _+_, _%_}
-use Rattle.refusal.specs.Table.{outcome}
+use Rattle.verdict.specs.Outcome.{outcome}
 use Rattle.timeline.specs.Windows.{OnlyWindow, nextWindow}
 use Rattle.records.specs.Records.{AllU32, endOf}
 use Rattle.plan.specs.Plan.{Plan, frameLength, windowCount, windowOf, ownerOf, offsetOf, budgetOf}

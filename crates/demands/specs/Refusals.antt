@@ -9,7 +9,8 @@ use Prim.Native.Nat.{ℕ, _≤_, _<_, _^_}
 use lib.ListN.{replicate}
 use Rattle.refusal.specs.declared.Refusal.{Refusal}
 use Rattle.refusal.specs.declared.Verdict.{Verdict}
-use Rattle.refusal.specs.Table.{numberOf, placeOf, outcome}
+use Rattle.refusal.specs.Table.{numberOf, placeOf}
+use Rattle.verdict.specs.Outcome.{outcome}
 use Rattle.timeline.specs.Windows.{OnlyWindow}
 use Rattle.records.specs.Records.{maxPartition}
 use Rattle.plan.specs.Plan.{Plan, frameLength, windowCount, offsetOf, budgetOf}

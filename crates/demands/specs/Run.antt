@@ -6,15 +6,15 @@ use mathlib.Core.Logic.{_⊎_}
 use mathlib.Core.Path.{_≡_}
 use Prim.Native.Nat.{ℕ, zero, suc, _+_, _*_, _≤_, _<_}
 use lib.ListN.{length, take, drop}
-use Rattle.refusal.specs.Table.{outcome}
+use Rattle.verdict.specs.Outcome.{outcome}
 use Rattle.records.specs.Records.{AllU32}
 use Rattle.plan.specs.Plan.{Plan}
 use Rattle.plan.specs.Faults.{verdictOf}
 use Rattle.protocol.specs.Numbers.{phaseWords}
 use Rattle.log.specs.Log.{callLog}
 use Rattle.state.specs.State.{zeros}
-use Rattle.run.specs.declared.RunAnswer.{RunAnswer}
-use Rattle.run.specs.Run.{runOf, logOf}
+use Rattle.machine.specs.declared.RunAnswer.{RunAnswer}
+use Rattle.machine.specs.Run.{runOf, logOf}
 use Rattle.history.specs.Reached.{Event, tick, status}
 use Rattle.history.specs.History.{Machine, machineOf, History, next, history}
 use Rattle.history.specs.Calls.{callAt, callsIn}

@@ -1,7 +1,7 @@
 // The test of 17: a state that some ticks and statuses lead to from the plan's cold start. One window tells it, the target's, so that the
 // test takes the same time for any plan.
 ghost use mathlib.Core.Path.{_≡_};
-ghost use Rattle.guard.specs.Guard.{inWindow, betweenWindows, atStart, fitsStage, fitsAt};
+ghost use Rattle.machine.specs.Guard.{inWindow, betweenWindows, atStart, fitsStage, fitsAt};
 use protocol::Stage;
 use records::Window;
 use records::nth_window;

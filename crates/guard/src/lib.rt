@@ -3,8 +3,9 @@ ghost use mathlib.Core.Path.{_≡_};
 ghost use Prim.Native.Nat.{_/_, _^_, _<_};
 ghost use lib.ListN.{length};
 ghost use Rattle.plan.specs.Plan.{planOf};
-ghost use Rattle.guard.specs.Guard.{fitsAt, stateVerdict, guarded};
+ghost use Rattle.machine.specs.Guard.{fitsAt, stateVerdict, guarded};
 use crate::fits::fits_at;
+pub use machine::Guarded;
 use plan::Frame;
 use protocol::Phase;
 use protocol::Stage;
@@ -14,15 +15,6 @@ use refusal::Verdict;
 use state::State;
 
 mod fits;
-
-// The verdict on a plan and a state, with what the step goes by.
-pub struct Guarded {
-    // where the machine is, or was when it stopped
-    pub stage: Stage,
-    // how many windows an accepted plan has; 0 for a refused one
-    pub count: u32,
-    pub verdict: Verdict,
-}
 
 // The list is one of an accepted plan, or as short.
 fn window_count(windows: &[u32]) -> u32

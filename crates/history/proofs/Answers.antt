@@ -7,7 +7,7 @@ use Rattle.refusal.specs.declared.Refusal.{Refusal}
 use Rattle.refusal.specs.declared.Refusal.the-variants.{NoCallOpen, MachineStopped}
 use Rattle.refusal.specs.declared.Verdict.{Verdict}
 use Rattle.refusal.specs.declared.Verdict.the-variants.{Accepted, Refused}
-use Rattle.refusal.proofs.First.{never-both}
+use Rattle.verdict.proofs.First.{never-both}
 use Rattle.plan.specs.Plan.{Plan}
 use Rattle.accepted.specs.Accepted as plan
 use Rattle.accepted.proofs.AcceptedLaws.{all-accepted}
@@ -20,18 +20,18 @@ use Rattle.state.specs.declared.Answer.{Answer}
 use Rattle.protocol.specs.Phase.{callOpen, isStopped, runs}
 use Rattle.state.specs.State.{resumed}
 use Rattle.state.specs.Answer.{quiet, refusedAnswer}
-use Rattle.switch.specs.Step.{timetableOf, swap, resume, tickMove, zeroAt, statusMove}
-use Rattle.guard.specs.Guard.{guardOf}
+use Rattle.machine.specs.Step.{timetableOf, swap, resume, tickMove, zeroAt, statusMove}
+use Rattle.machine.specs.Guard.{guardOf}
 use Rattle.state.specs.Start.{ifAccepted}
-use Rattle.switch.specs.Machine.{tickOf, statusVerdict, statusOf}
+use Rattle.machine.specs.Machine.{tickOf, statusVerdict, statusOf}
 use Rattle.history.specs.Reached.{Event, tick, status, moveOf}
 use Rattle.history.specs.History.{History, answerOf, machineOf, goOn, next}
-use Rattle.switch.proofs.StepLaws.{status-zero}
-use Rattle.guard.proofs.GuardLaws.{guard-stopped, guard-accepted}
-use Rattle.switch.proofs.MachineLaws.{tick-refused, tick-accepted, status-refused, status-unasked, status-accepted}
+use Rattle.machine.proofs.StepLaws.{status-zero}
+use Rattle.machine.proofs.GuardLaws.{guard-stopped, guard-accepted}
+use Rattle.machine.proofs.MachineLaws.{tick-refused, tick-accepted, status-refused, status-unasked, status-accepted}
 use Rattle.history.specs.Cases.{TickCase, window-goes-on, window-ends, wrong-tick, tick-in-a-switch, tick-too-late, StatusCase, saved, programmed, runs-again, bad-status, status-unasked-for, status-too-late}
 use Rattle.history.proofs.Cases.{tick-case, status-case}
-use Rattle.guard.proofs.FitsLaws.{Fits, fits-says}
+use Rattle.machine.proofs.FitsLaws.{Fits, fits-says}
 
 -- a step by itself refuses nothing
 pub step-accepts : (p : Plan) (s : State) (e : Event) → moveOf p s e .verdict ≡ Accepted

@@ -27,12 +27,12 @@ use Rattle.protocol.specs.declared.Phase.the-variants.{At}
 use Rattle.protocol.specs.Phase.{isStopped}
 use Rattle.state.specs.declared.Answer.{Answer}
 use Rattle.state.specs.Start.{coldOf}
-use Rattle.switch.specs.Step.{timetableOf}
+use Rattle.machine.specs.Step.{timetableOf}
 use Rattle.history.specs.Reached.{Event, tick, status, ticksOf}
 use Rattle.history.specs.History.{Machine, answerOf, machineOf, History, counted, begin, goOn, next, since, history}
 use Rattle.history.specs.Cases.{TickCase, window-goes-on, window-ends, wrong-tick, tick-in-a-switch, tick-too-late, StatusCase, saved, programmed, runs-again, bad-status, status-unasked-for, status-too-late}
 use Rattle.history.specs.Calls.{ownerAfter, turnCall, callAt, firstCalls, callsIn, endedAfter, callCount, CallsAreThePlans}
-use Rattle.guard.proofs.FitsLaws.{InWindow, FitsPhase}
+use Rattle.machine.proofs.FitsLaws.{InWindow, FitsPhase}
 use Rattle.history.proofs.Cases.{tick-case, status-case}
 use Rattle.history.proofs.Preserved.{arrives}
 use Rattle.history.proofs.Answers.{too-late, on-tick, on-status, unasked, refused-not-counted}

@@ -9,9 +9,9 @@ use Rattle.protocol.specs.declared.Stage.the-variants.{Running, SaveCtx, Progra
 use Rattle.protocol.specs.declared.Phase.{Phase}
 use Rattle.protocol.specs.declared.Phase.the-variants.{At, Stopped}
 use Rattle.state.specs.declared.State.{State}
-use Rattle.switch.specs.Step.{Timetable, zeroAt}
+use Rattle.machine.specs.Step.{Timetable, zeroAt}
 use Rattle.history.specs.Cases.{TickCase, window-goes-on, window-ends, wrong-tick, tick-in-a-switch, tick-too-late, StatusCase, saved, programmed, runs-again, bad-status, status-unasked-for, status-too-late}
-use Rattle.switch.proofs.StepLaws.{taken-last, taken-within, tick-stopped, tick-in-switch, tick-wrong, tick-due, status-stopped, status-zero, status-bad, status-unasked}
+use Rattle.machine.proofs.StepLaws.{taken-last, taken-within, tick-stopped, tick-in-switch, tick-wrong, tick-due, status-stopped, status-zero, status-bad, status-unasked}
 
 pub tick-case : (tt : Timetable) (s : State) (t : ℕ) → TickCase tt s t
 tick-case tt s t = go (s .phase) refl

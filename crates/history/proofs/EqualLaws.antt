@@ -15,9 +15,9 @@ use Rattle.protocol.specs.Phase.{runs}
 use Rattle.state.specs.declared.State.{State}
 use Rattle.state.specs.State.{zeros}
 use Rattle.state.specs.Start.{coldMove, ifAccepted, coldOf}
-use Rattle.switch.specs.Step.{timetable, tickMove, statusMove}
-use Rattle.guard.specs.Guard.{fits, stateVerdict, guardOf}
-use Rattle.switch.specs.Machine.{tickOf, statusVerdict, statusOf}
+use Rattle.machine.specs.Step.{timetable, tickMove, statusMove}
+use Rattle.machine.specs.Guard.{fits, stateVerdict, guardOf}
+use Rattle.machine.specs.Machine.{tickOf, statusVerdict, statusOf}
 use Rattle.history.specs.Reached.{Event, tick, status}
 use Rattle.history.specs.History.{Machine, answerOf, machineOf, history}
 

@@ -10,9 +10,9 @@ use Rattle.accepted.specs.Accepted as plan
 use Rattle.protocol.specs.Phase.{keptWord}
 use Rattle.state.specs.declared.State.{State}
 use Rattle.state.specs.Start.{coldMove}
-use Rattle.guard.specs.Guard.{fits}
+use Rattle.machine.specs.Guard.{fits}
 use Rattle.history.specs.Reached.{Reached, ReachedWithin}
-use Rattle.guard.proofs.FitsLaws.{Fits, fits-says}
+use Rattle.machine.proofs.FitsLaws.{Fits, fits-says}
 use Rattle.history.proofs.Preserved.{cold-fits, leads-fits}
 use Rattle.history.proofs.Reach.{fits-reached}
 

@@ -23,14 +23,14 @@ use Rattle.protocol.specs.Phase.{isStopped}
 use Rattle.state.specs.State.{cold}
 use Rattle.state.specs.Answer.{owner}
 use Rattle.state.specs.Start.{coldMove, coldOf}
-use Rattle.switch.specs.Step.{timetableOf, tickMove, statusMove}
-use Rattle.switch.specs.Machine.{tickOf, statusOf}
+use Rattle.machine.specs.Step.{timetableOf, tickMove, statusMove}
+use Rattle.machine.specs.Machine.{tickOf, statusOf}
 use Rattle.history.specs.Reached.{Event, tick, status, moveOf, leads}
 use Rattle.history.specs.History.{Machine, answerOf, machineOf, Entry, called, answered, History, counted, begin, goOn, next, since, history}
 use Rattle.state.proofs.StartLaws.{cold-accepted}
 use Rattle.history.specs.Cases.{TickCase, window-goes-on, window-ends, wrong-tick, tick-in-a-switch, tick-too-late, StatusCase, saved, programmed, runs-again, bad-status, status-unasked-for, status-too-late, onward}
 use Rattle.history.proofs.Cases.{tick-case, status-case}
-use Rattle.guard.proofs.FitsLaws.{Fits}
+use Rattle.machine.proofs.FitsLaws.{Fits}
 use Rattle.history.proofs.Preserved.{move-fits, cold-fits}
 use Rattle.history.proofs.Answers.{too-late, on-tick, on-status, unasked, refused-not-counted}
 

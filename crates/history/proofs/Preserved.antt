@@ -14,11 +14,11 @@ use Rattle.accepted.proofs.FollowLaws.{follow}
 use Rattle.state.specs.declared.State.{State}
 use Rattle.state.specs.declared.Answer.{Answer}
 use Rattle.state.specs.State.{cold}
-use Rattle.switch.specs.Step.{timetableOf, tickMove, statusMove}
+use Rattle.machine.specs.Step.{timetableOf, tickMove, statusMove}
 use Rattle.history.specs.Reached.{Event, tick, status, moveOf, leads}
 use Rattle.history.specs.Cases.{TickCase, window-goes-on, window-ends, wrong-tick, tick-in-a-switch, tick-too-late, StatusCase, saved, programmed, runs-again, bad-status, status-unasked-for, status-too-late, onward}
 use Rattle.history.proofs.Cases.{tick-case, status-case}
-use Rattle.guard.proofs.FitsLaws.{InWindow, Between, AtStart, FitsPhase, Fits}
+use Rattle.machine.proofs.FitsLaws.{InWindow, Between, AtStart, FitsPhase, Fits}
 
 module _ (p : Plan) (a : AcceptedIf p) where
   -- where a switch leads, the due tick is in the window

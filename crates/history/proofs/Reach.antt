@@ -25,11 +25,11 @@ use Rattle.state.specs.declared.State.{State}
 use Rattle.state.specs.declared.Answer.{Answer}
 use Rattle.state.specs.State.{windowNo, cold, ticked, asked, resumed, stopped}
 use Rattle.state.specs.Start.{coldMove}
-use Rattle.switch.specs.Step.{timetableOf, zeroAt}
+use Rattle.machine.specs.Step.{timetableOf, zeroAt}
 use Rattle.history.specs.Reached.{Event, tick, status, moveOf, leads, wordOf, Within, ReachedWithin}
 use Rattle.state.proofs.StateLaws.{is-asked, is-stopped}
-use Rattle.switch.proofs.StepLaws.{taken-last, taken-within, tick-in-switch, tick-wrong, tick-due, status-zero, status-bad}
-use Rattle.guard.proofs.FitsLaws.{Between, AtStart, Place, Placed, markAt, StoppedFor, FitsPhase, Fits}
+use Rattle.machine.proofs.StepLaws.{taken-last, taken-within, tick-in-switch, tick-wrong, tick-due, status-zero, status-bad}
+use Rattle.machine.proofs.FitsLaws.{Between, AtStart, Place, Placed, markAt, StoppedFor, FitsPhase, Fits}
 
 -- the states of a machine that is not stopped
 abbrev running : (window due : ℕ) → State

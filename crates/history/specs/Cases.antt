@@ -15,7 +15,7 @@ use Rattle.protocol.specs.Phase.{callOpen}
 use Rattle.state.specs.declared.State.{State}
 use Rattle.state.specs.State.{ticked, resumed}
 use Rattle.state.specs.Answer.{quiet, stop}
-use Rattle.switch.specs.Step.{Timetable, save, swap, resume, tickMove, statusMove}
+use Rattle.machine.specs.Step.{Timetable, save, swap, resume, tickMove, statusMove}
 
 module _ (tt : Timetable) (s : State) where
   -- "due becomes t + 1, or 0 at the frame length"

@@ -15,7 +15,7 @@ use Rattle.protocol.specs.Phase.{isStopped}
 use Rattle.state.specs.declared.State.{State}
 use Rattle.state.specs.declared.Answer.{Answer}
 use Rattle.state.specs.Start.{coldOf}
-use Rattle.switch.specs.Machine.{tickOf, statusOf}
+use Rattle.machine.specs.Machine.{tickOf, statusOf}
 use Rattle.history.specs.Reached.{Event, tick, status}
 
 -- any machine: what a cold start answers, and what an event

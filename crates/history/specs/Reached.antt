@@ -7,7 +7,7 @@ use Rattle.plan.specs.Plan.{Plan}
 use Rattle.state.specs.declared.State.{State}
 use Rattle.state.specs.declared.Answer.{Answer}
 use Rattle.state.specs.Start.{coldMove}
-use Rattle.switch.specs.Step.{timetableOf, tickMove, statusMove}
+use Rattle.machine.specs.Step.{timetableOf, tickMove, statusMove}
 
 pub data Event : Type 0 where
   tick status : ℕ → Event

@@ -4,7 +4,7 @@ use mathlib.Core.List.{List, [], _∷_, _++_}
 use Prim.Native.Nat.{ℕ}
 use lib.ListN.{getD}
 use Rattle.lookup.specs.declared.Located.{Located}
-use Rattle.run.specs.declared.RunAnswer.{RunAnswer}
+use Rattle.machine.specs.declared.RunAnswer.{RunAnswer}
 use Rattle.words.specs.declared.Pair.{Pair}
 use Rattle.words.specs.declared.Words.{Words}
 use Rattle.wire.specs.Answers.{verdictWords}

@@ -1,7 +1,7 @@
 // A run.
 ghost use mathlib.Core.Path.{_≡_};
 ghost use Rattle.plan.specs.Plan.{frameOf, planOf};
-ghost use Rattle.run.specs.Run.{runOf, logOf};
+ghost use Rattle.machine.specs.Run.{runOf, logOf};
 ghost use Rattle.wire.specs.Answers.{verdictWords};
 ghost use Rattle.in_words.specs.Events.{leftWords};
 ghost use Rattle.host.specs.Numbers.{countsOf};

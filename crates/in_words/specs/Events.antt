@@ -5,14 +5,15 @@ use Prim.Native.Nat.{ℕ}
 use Rattle.refusal.specs.declared.Refusal.the-variants.{StrangeState}
 use Rattle.refusal.specs.declared.Verdict.{Verdict}
 use Rattle.refusal.specs.declared.Verdict.the-variants.{Refused}
-use Rattle.refusal.specs.First.{orElse, unlessRefused}
+use Rattle.refusal.specs.First.{orElse}
+use Rattle.verdict.specs.First.{unlessRefused}
 use Rattle.plan.specs.Plan.{Plan}
 use Rattle.plan.specs.Faults.{verdictOf}
 use Rattle.state.specs.declared.State.{State}
 use Rattle.state.specs.declared.Answer.{Answer}
 use Rattle.state.specs.State.{zeros}
 use Rattle.state.specs.Answer.{refusedAnswer}
-use Rattle.switch.specs.Machine.{tickOf, statusOf}
+use Rattle.machine.specs.Machine.{tickOf, statusOf}
 use Rattle.wire.specs.declared.Read.{Read}
 use Rattle.wire.specs.declared.Read.the-variants.{NoState, Is}
 use Rattle.wire.specs.States.{stateWords, readState}

@@ -12,8 +12,9 @@ use Rattle.refusal.specs.declared.Refusal.{Refusal}
 use Rattle.refusal.specs.declared.Refusal.the-variants.{ZeroBudget, WrongStart, WrongLength, TickPastFrame}
 use Rattle.refusal.specs.declared.Verdict.{Verdict}
 use Rattle.refusal.specs.declared.Verdict.the-variants.{Accepted, Refused}
-use Rattle.refusal.specs.First.{refuseIf, orElse, firstFault, FirstAt}
-use Rattle.refusal.proofs.First.{refuses-if, fault-found, own-refusal, both-accept, one-refuses, first-refuses, refuses-first, each-accepts, all-accept, goes-on, stops, ends}
+use Rattle.refusal.specs.First.{refuseIf, orElse}
+use Rattle.verdict.specs.First.{firstFault, FirstAt}
+use Rattle.verdict.proofs.First.{refuses-if, fault-found, own-refusal, both-accept, one-refuses, first-refuses, refuses-first, each-accepts, all-accept, goes-on, stops, ends}
 use Rattle.refusal.proofs.Tests.{equal, positive, same, not-same}
 use Rattle.timeline.specs.Windows.{Follow, windowAt}
 use Rattle.timeline.specs.Lookup.{lookupVerdict}

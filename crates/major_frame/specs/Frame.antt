@@ -7,7 +7,8 @@ use lib.Dec.{eqb}
 use lib.ListN.{getD}
 use Rattle.refusal.specs.declared.Refusal.the-variants.{ZeroBudget, WrongStart, WrongLength}
 use Rattle.refusal.specs.declared.Verdict.{Verdict}
-use Rattle.refusal.specs.First.{refuseIf, orElse, firstFault}
+use Rattle.refusal.specs.First.{refuseIf, orElse}
+use Rattle.verdict.specs.First.{firstFault}
 use Rattle.timeline.specs.Windows.{windowAt}
 use Rattle.timeline.specs.Lookup.{lookupVerdict, lookedUp}
 use Rattle.major_frame.specs.declared.MajorFrame.{MajorFrame}

@@ -11,14 +11,15 @@ use Rattle.refusal.specs.declared.Refusal.{Refusal}
 use Rattle.refusal.specs.declared.Refusal.the-variants.{Counts, WrongLength, Clash}
 use Rattle.refusal.specs.declared.Verdict.{Verdict}
 use Rattle.refusal.specs.declared.Verdict.the-variants.{Accepted, Refused}
-use Rattle.refusal.specs.First.{refuseIf, orElse, refused, firstFault, upward, testAt, firstOf, FirstIn}
+use Rattle.refusal.specs.First.{refuseIf, orElse}
+use Rattle.verdict.specs.First.{refused, firstFault, upward, testAt, firstOf, FirstIn}
 use native.Mathlib.Omega.{arith}
 use Rattle.row.specs.Tests.{clashes, rowFault}
 use Rattle.rows.proofs.TestLaws.{row-count-right, counted as rows-counted}
 use Rattle.rows.specs.Tests.{rowsVerdict, clashTest, clashesBefore, rowTest}
 use Rattle.refusal.proofs.Tests.{equal, positive, at-most, neither}
 use Rattle.plan.specs.Plan.{CountsInRange, Plan, frameLength, windowCount, rowCount, windowOf}
-use Rattle.refusal.proofs.First.{refuses-if, or-accepted, or-assoc, one-kind, first-of-cons, first-of-both, first-upward, first-in, in-first}
+use Rattle.verdict.proofs.First.{refuses-if, or-accepted, or-assoc, one-kind, first-of-cons, first-of-both, first-upward, first-in, in-first}
 use Rattle.records.specs.Records.{endOf, nthRow}
 use Rattle.plan.specs.Faults.{wrongCounts, wrongLength, wrong, windowFaults, rowFaults, pastCounts, order, verdictOf}
 use Rattle.plan.specs.Parts.{windowFault, windowTest}

@@ -8,7 +8,7 @@ use lib.ListN.{length}
 use Rattle.refusal.specs.declared.Refusal.{Refusal}
 use Rattle.refusal.specs.declared.Refusal.the-variants.{Counts, ZeroBudget, WrongStart, UnknownOwner, WrongLength, UnknownPartition, BadSize, BadBase, BadAccess, NinthRow, Clash, TickPastFrame, NoCallOpen, MachineStopped, NoWordsFor, LogTooShort, StrangeState}
 use Rattle.refusal.specs.declared.Verdict.{Verdict}
-use Rattle.refusal.specs.First.{upward, firstOf, refused}
+use Rattle.verdict.specs.First.{upward, firstOf, refused}
 use Rattle.records.specs.declared.Window.{Window}
 use Rattle.row.specs.Tests.{unknownPartition, badSize, badBase, badAccess}
 use Rattle.rows.specs.Tests.{wrongRowCount, ninthRow, clashesBefore}

@@ -2,7 +2,7 @@
 ghost use mathlib.Core.Path.{_≡_};
 ghost use Prim.Native.Nat.{_+_, _*_, _≤_, _<_};
 ghost use lib.ListN.{length};
-ghost use Rattle.refusal.specs.First.{firstFault};
+ghost use Rattle.verdict.specs.First.{firstFault};
 ghost use Rattle.records.specs.Records.{nthWindow};
 ghost use Rattle.plan.specs.Plan.{planOf};
 ghost use Rattle.plan.specs.Faults.{wrongCounts, verdictOf};

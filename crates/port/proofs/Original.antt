@@ -7,8 +7,8 @@ use mathlib.Core.Path.{_≡_, refl, sym, ap, _∙_}
 use Prim.Native.Nat.{ℕ, _+_, _<_}
 use native.Mathlib.Omega.{arith}
 use Rattle.refusal.specs.declared.Verdict.the-variants.{Accepted}
-use Rattle.refusal.specs.Table.{outcome}
-use Rattle.refusal.proofs.Table.{same-outcome}
+use Rattle.verdict.specs.Outcome.{outcome}
+use Rattle.verdict.proofs.Outcome.{same-outcome}
 use Rattle.timeline.specs.Windows.{Holds, nextWindow, nextTick}
 use Rattle.timeline.proofs.Laws.{exactly-one, share-no-tick, next-holds, next-is-window}
 use Rattle.major_frame.specs.declared.MajorFrame.{MajorFrame}

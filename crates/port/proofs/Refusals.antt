@@ -12,9 +12,10 @@ use Rattle.refusal.specs.declared.Refusal.{Refusal}
 use Rattle.refusal.specs.declared.Refusal.the-variants.{ZeroBudget, WrongStart, WrongLength, NoCallOpen, StrangeState}
 use Rattle.refusal.specs.declared.Verdict.{Verdict}
 use Rattle.refusal.specs.declared.Verdict.the-variants.{Accepted, Refused}
-use Rattle.refusal.specs.Table.{numberOf, outcome}
-use Rattle.refusal.proofs.First.{never-both}
-use Rattle.refusal.proofs.Table.{same-outcome}
+use Rattle.refusal.specs.Table.{numberOf}
+use Rattle.verdict.specs.Outcome.{outcome}
+use Rattle.verdict.proofs.First.{never-both}
+use Rattle.verdict.proofs.Outcome.{same-outcome}
 use Rattle.major_frame.specs.declared.MajorFrame.{MajorFrame}
 use Rattle.major_frame.specs.Frame.{FrameInv, windowTest, frameVerdict, currentWindow}
 use Rattle.major_frame.proofs.FrameLaws.{test-accepted, budget-refused, start-refused, window-refused, length-refused, length-refuses, refused-first, first-refused, last-refused, lookup-refused, lookup-past, lookup-found, accepted-inv as frame-accepted-inv, inv-accepted as frame-inv-accepted}

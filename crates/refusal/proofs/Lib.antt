@@ -1,3 +1,1 @@
-pub mod First
-pub mod Table
 pub mod Tests

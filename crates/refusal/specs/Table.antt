@@ -6,8 +6,6 @@ use lib.Dec.{eqb}
 use lib.IntN.{ℤ}
 use Rattle.refusal.specs.declared.Refusal.{Refusal}
 use Rattle.refusal.specs.declared.Refusal.the-variants.{Counts, ZeroBudget, WrongStart, UnknownOwner, WrongLength, UnknownPartition, BadSize, BadBase, BadAccess, NinthRow, Clash, TickPastFrame, NoCallOpen, MachineStopped, NoWordsFor, LogTooShort, StrangeState}
-use Rattle.refusal.specs.declared.Verdict.{Verdict}
-use Rattle.refusal.specs.declared.Verdict.the-variants.{Accepted, Refused}
 use Rattle.refusal.specs.Code.{EINVAL, ENOENT, ENOSPC, EADDRINUSE, EAGAIN, ECANCELED, EBADF}
 
 abbrev pub numberOf : Refusal → ℕ
@@ -60,8 +58,3 @@ codeOf n =
 
 abbrev pub hostCodeOf : Refusal → ℤ
 hostCodeOf r = codeOf (numberOf r)
-
--- a verdict in document 01's numbers: the number and the place of a refusal, 0 and 0 where it accepts
-abbrev pub outcome : Verdict → ℕ × ℕ
-outcome Accepted = (0, 0)
-outcome (Refused r) = (numberOf r, placeOf r)

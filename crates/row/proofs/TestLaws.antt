@@ -7,7 +7,7 @@ use native.Mathlib.Nat.{div-add-mod', mul-mod-left}
 use native.Mathlib.Omega.{arith}
 use lib.Count.{ones}
 use Rattle.refusal.specs.declared.Verdict.the-variants.{Accepted}
-use Rattle.refusal.proofs.First.{refuses-if, both-accept}
+use Rattle.verdict.proofs.First.{refuses-if, both-accept}
 use Rattle.refusal.proofs.Tests.{equal, at-most, neither}
 use Rattle.records.specs.declared.Row.{Row}
 use Rattle.records.specs.Records.{maxPartition}

@@ -10,8 +10,8 @@ use native.Mathlib.Omega.{arith}
 use Rattle.refusal.specs.declared.Refusal.the-variants.{Clash}
 use Rattle.refusal.specs.declared.Verdict.{Verdict}
 use Rattle.refusal.specs.declared.Verdict.the-variants.{Accepted, Refused}
-use Rattle.refusal.specs.First.{refused}
-use Rattle.refusal.proofs.First.{refuses-if, fault-found, not-refused, each-accepts, all-accept, first-refuses}
+use Rattle.verdict.specs.First.{refused}
+use Rattle.verdict.proofs.First.{refuses-if, fault-found, not-refused, each-accepts, all-accept, first-refuses}
 use Rattle.records.specs.Records.{nthRow}
 use Rattle.row.specs.Addresses.{RowsClash}
 use Rattle.row.proofs.ClashLaws.{clash-true, true-clash}

@@ -8,8 +8,9 @@ use Prim.Native.Nat.{ℕ, _/_, _%_, _≤_}
 use lib.ListN.{length}
 use Rattle.refusal.specs.declared.Refusal.the-variants.{Counts}
 use Rattle.refusal.specs.declared.Verdict.the-variants.{Accepted, Refused}
-use Rattle.refusal.specs.First.{refuseIf, orElse, firstFault}
-use Rattle.refusal.proofs.First.{refuses-if, both-accept}
+use Rattle.refusal.specs.First.{refuseIf, orElse}
+use Rattle.verdict.specs.First.{firstFault}
+use Rattle.verdict.proofs.First.{refuses-if, both-accept}
 use Rattle.refusal.proofs.Tests.{equal, differs, at-most, neither}
 use Rattle.records.specs.Records.{nthRow}
 use Rattle.row.specs.Tests.{rowFault}

@@ -7,7 +7,8 @@ use lib.Dec.{eqb, ltb}
 use lib.ListN.{length}
 use Rattle.refusal.specs.declared.Refusal.the-variants.{Counts, NinthRow, Clash}
 use Rattle.refusal.specs.declared.Verdict.{Verdict}
-use Rattle.refusal.specs.First.{refuseIf, orElse, firstFault}
+use Rattle.refusal.specs.First.{refuseIf, orElse}
+use Rattle.verdict.specs.First.{firstFault}
 use Rattle.records.specs.declared.Row.{Row}
 use Rattle.records.specs.Records.{nthRow}
 use Rattle.row.specs.Tests.{clashes, rowFault}

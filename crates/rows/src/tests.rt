@@ -2,7 +2,7 @@
 ghost use mathlib.Core.Path.{_≡_};
 ghost use Prim.Native.Nat.{_+_, _*_, _≤_, _<_, min, max};
 ghost use lib.ListN.{length};
-ghost use Rattle.refusal.specs.First.{firstFault};
+ghost use Rattle.verdict.specs.First.{firstFault};
 ghost use Rattle.records.specs.Records.{nthRow};
 ghost use Rattle.rows.specs.Rows.{rowsOf};
 ghost use Rattle.rows.specs.Tests.{clashesBefore, rowTest};

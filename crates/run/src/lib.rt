@@ -2,9 +2,11 @@
 // a later one's.
 ghost use mathlib.Core.Path.{_≡_};
 ghost use Rattle.plan.specs.Plan.{planOf};
-ghost use Rattle.run.specs.Run.{endOfRun, took, tickTurn, statusTurn, turn, progress, goOn, left, ended, refusedRun, runOf, logOf};
+ghost use Rattle.machine.specs.Run.{endOfRun, took, tickTurn, statusTurn, turn, progress, goOn, left, ended, refusedRun, runOf, logOf};
 use log::put_call;
 use log::too_short;
+use machine::Course;
+pub use machine::RunAnswer;
 use plan::Frame;
 use protocol::Call;
 use protocol::Phase;
@@ -14,25 +16,6 @@ use state::Answer;
 use state::State;
 use switch::status;
 use switch::tick;
-
-// The end state, how many ticks and statuses were used, the one that stopped it included, and how many calls were written.
-pub struct RunAnswer {
-    pub state: State,
-    pub ticks: usize,
-    pub statuses: usize,
-    pub calls: usize,
-    pub verdict: Verdict,
-}
-
-// How far a run is: the state and the call of the last answer, how many ticks and statuses were taken, and whether one was taken last. It is public for the
-// theorems on runs; no function outside takes one.
-pub struct Course {
-    pub state: State,
-    pub call: Call,
-    pub ticks: usize,
-    pub statuses: usize,
-    pub going: bool,
-}
 
 // Nothing is left to take.
 fn end_of_run(course: Course) -> Course

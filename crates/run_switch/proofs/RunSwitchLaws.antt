@@ -11,7 +11,7 @@ use Rattle.refusal.specs.declared.Refusal.{Refusal}
 use Rattle.refusal.specs.declared.Refusal.the-variants.{NoCallOpen}
 use Rattle.refusal.specs.declared.Verdict.the-variants.{Accepted, Refused}
 use Rattle.refusal.specs.First.{refuseIf, orElse}
-use Rattle.refusal.proofs.First.{fault-found, own-refusal, one-refuses}
+use Rattle.verdict.proofs.First.{fault-found, own-refusal, one-refuses}
 use Rattle.switcher.specs.declared.SwPhase.the-variants.{SaveCtx}
 use Rattle.switcher.specs.declared.Switcher.{Switcher}
 use Rattle.switcher.specs.Switch.{inPhase, stateVerdict, saved, swappedIn, resumed}

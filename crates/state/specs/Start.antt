@@ -3,7 +3,7 @@
 use mathlib.Core.List.{List}
 use Prim.Native.Nat.{ℕ}
 use Rattle.refusal.specs.declared.Verdict.{Verdict}
-use Rattle.refusal.specs.First.{unlessRefused}
+use Rattle.verdict.specs.First.{unlessRefused}
 use Rattle.plan.specs.Plan.{Plan}
 use Rattle.plan.specs.Faults.{verdictOf}
 use Rattle.protocol.specs.declared.Call.the-variants.{SwapFor}

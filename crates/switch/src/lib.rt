@@ -3,7 +3,7 @@
 // refuses nothing.
 ghost use mathlib.Core.Path.{_≡_};
 ghost use Rattle.plan.specs.Plan.{planOf};
-ghost use Rattle.switch.specs.Machine.{tickOf, statusOf};
+ghost use Rattle.machine.specs.Machine.{tickOf, statusOf};
 use crate::step::status_at;
 use crate::step::tick_at;
 use guard::guard;

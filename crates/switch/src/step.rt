@@ -1,6 +1,6 @@
 // What one event does to a machine that goes on, at the stage that the guard found it at; it asks nothing of the rest of the state.
 ghost use mathlib.Core.Path.{_≡_};
-ghost use Rattle.switch.specs.Step.{timetable, lastTick, save, tickTaken, tickAt, zeroAt, statusAt};
+ghost use Rattle.machine.specs.Step.{timetable, lastTick, save, tickTaken, tickAt, zeroAt, statusAt};
 use protocol::Call;
 use protocol::Cause;
 use protocol::Stage;

@@ -11,7 +11,7 @@ use Rattle.refusal.specs.declared.Refusal.the-variants.{StrangeState}
 use Rattle.refusal.specs.declared.Verdict.{Verdict}
 use Rattle.refusal.specs.declared.Verdict.the-variants.{Accepted, Refused}
 use Rattle.refusal.specs.First.{refuseIf, orElse}
-use Rattle.refusal.proofs.First.{refuses-if, both-accept}
+use Rattle.verdict.proofs.First.{refuses-if, both-accept}
 use Rattle.major_frame.specs.declared.MajorFrame.{MajorFrame}
 use Rattle.major_frame.specs.Frame.{frameVerdict}
 use Rattle.major_frame.proofs.FrameLaws.{accepted-inv as frame-accepted-inv, inv-accepted as frame-inv-accepted}

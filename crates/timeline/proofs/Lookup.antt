@@ -9,7 +9,7 @@ use Rattle.refusal.specs.declared.Refusal.the-variants.{TickPastFrame}
 use Rattle.refusal.specs.declared.Verdict.{Verdict}
 use Rattle.refusal.specs.declared.Verdict.the-variants.{Accepted, Refused}
 use Rattle.refusal.specs.First.{refuseIf, orElse}
-use Rattle.refusal.proofs.First.{both-accept, refuses-if}
+use Rattle.verdict.proofs.First.{both-accept, refuses-if}
 use Rattle.timeline.specs.Lookup.{lookupVerdict, lookedUp}
 
 module _ {A : Type 0} (answer : ℕ → Verdict → A) (frame : Verdict) (frameLength t window : ℕ) where

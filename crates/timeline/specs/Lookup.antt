@@ -4,7 +4,8 @@ use Prim.Native.Nat.{ℕ}
 use lib.Dec.{leb}
 use Rattle.refusal.specs.declared.Refusal.the-variants.{TickPastFrame}
 use Rattle.refusal.specs.declared.Verdict.{Verdict}
-use Rattle.refusal.specs.First.{refuseIf, orElse, unlessRefused}
+use Rattle.refusal.specs.First.{refuseIf, orElse}
+use Rattle.verdict.specs.First.{unlessRefused}
 
 unfoldable pub lookupVerdict : Verdict → (frameLength t : ℕ) → Verdict
 lookupVerdict frame frameLength t = orElse frame (refuseIf (leb frameLength t) TickPastFrame)

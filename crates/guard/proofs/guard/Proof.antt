@@ -6,9 +6,9 @@ use Rattle.refusal.specs.declared.Verdict.the-variants.{Accepted}
 use Rattle.plan.specs.Plan.{Plan, planOf, windowCount}
 use Rattle.plan.specs.Faults.{verdictOf}
 use Rattle.accepted.proofs.AcceptedLaws.{accepted-all}
-use Rattle.refusal.proofs.First.{answers, answers-else}
-use Rattle.guard.specs.Guard.{fitsAt, stateVerdict}
-use Rattle.guard.proofs.GuardLaws.{guard-plan, guard-state}
+use Rattle.verdict.proofs.First.{answers, answers-else}
+use Rattle.machine.specs.Guard.{fitsAt, stateVerdict}
+use Rattle.machine.proofs.GuardLaws.{guard-plan, guard-state}
 use Rattle.guard.proofs.guard.Statement.{statement}
 use Rattle.guard.proofs.guard.Tie as tie
 

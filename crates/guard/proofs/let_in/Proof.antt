@@ -4,7 +4,7 @@ use borrow.Author.Needs.{needs}
 use borrow.Author.Tests.{not-true, not-false}
 use mathlib.Core.Path.{sym, _∙_}
 use Rattle.refusal.specs.First.{refuseIf, orElse}
-use Rattle.guard.specs.Guard.{stateVerdict}
+use Rattle.machine.specs.Guard.{stateVerdict}
 use Rattle.guard.proofs.let_in.Statement.{statement}
 use Rattle.guard.proofs.let_in.Tie as tie
 

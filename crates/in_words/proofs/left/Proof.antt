@@ -1,7 +1,7 @@
 -- `left` meets its contract: the verdict says which words.
 -- Assumes nothing.
 use mathlib.Core.Path.{sym, _∙_}
-use Rattle.refusal.proofs.First.{answers}
+use Rattle.verdict.proofs.First.{answers}
 use borrow.Author.Needs.{needs}
 use Rattle.in_words.proofs.left.Statement.{statement}
 use Rattle.in_words.proofs.left.Tie as tie

@@ -3,7 +3,7 @@
 use mathlib.Core.Path.{sym, ap, _∙_}
 use Rattle.plan.specs.Plan.{Plan, planOf}
 use Rattle.state.specs.declared.Answer.{Answer}
-use Rattle.switch.specs.Machine.{statusOf}
+use Rattle.machine.specs.Machine.{statusOf}
 use Rattle.wire.specs.declared.Read.{Read}
 use Rattle.in_words.specs.Events.{strange, onState}
 use borrow.Author.Needs.{needs}

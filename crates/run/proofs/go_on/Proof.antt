@@ -7,9 +7,9 @@ use native.Mathlib.Omega.{arith}
 use borrow.Author.Needs.{needs}
 use lib.ListN.{length}
 use Rattle.plan.specs.Plan.{planOf}
-use Rattle.run.specs.declared.Course.{Course}
-use Rattle.run.specs.Run.{Progress, progress, goOn, left, ended}
-use Rattle.run.proofs.RunLaws.{one-turn-fewer, one-turn-more, all-done}
+use Rattle.machine.specs.declared.Course.{Course}
+use Rattle.machine.specs.Run.{Progress, progress, goOn, left, ended}
+use Rattle.machine.proofs.RunLaws.{one-turn-fewer, one-turn-more, all-done}
 use Rattle.run.proofs.go_on.Statement.{statement}
 use Rattle.run.proofs.go_on.Tie as tie
 

@@ -7,9 +7,9 @@ use Rattle.plan.specs.Plan.{Plan, planOf}
 use Rattle.plan.specs.Faults.{verdictOf}
 use Rattle.state.specs.declared.Answer.{Answer}
 use Rattle.state.proofs.StartLaws.{cold-accepted}
-use Rattle.run.specs.declared.Course.{Course}
-use Rattle.run.specs.Run.{took, Progress, progress, goOn, left, ended, refusedRun}
-use Rattle.run.proofs.RunLaws.{cold-verdict, plan-first, then-16, let-in, runs-refused, runs-whole}
+use Rattle.machine.specs.declared.Course.{Course}
+use Rattle.machine.specs.Run.{took, Progress, progress, goOn, left, ended, refusedRun}
+use Rattle.machine.proofs.RunLaws.{cold-verdict, plan-first, then-16, let-in, runs-refused, runs-whole}
 use Rattle.run.proofs.run.Statement.{statement}
 use Rattle.run.proofs.run.Tie as tie
 

@@ -6,7 +6,7 @@ use Rattle.protocol.proofs.Call as call
 use Rattle.protocol.specs.Phase.{isStopped}
 use Rattle.log.specs.Log.{asks}
 use Rattle.log.proofs.LogLaws.{asked}
-use Rattle.run.proofs.RunLaws.{turn-stopped, turn-open, turn-quiet}
+use Rattle.machine.proofs.RunLaws.{turn-stopped, turn-open, turn-quiet}
 use Rattle.run.proofs.turn.Statement.{statement}
 use Rattle.run.proofs.turn.Tie as tie
 

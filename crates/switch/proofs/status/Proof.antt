@@ -4,11 +4,11 @@ use borrow.Author.Needs.{needs}
 use mathlib.Core.Path.{_≡_, sym, ap, _∙_}
 use Rattle.refusal.specs.declared.Verdict.the-variants.{Accepted}
 use Rattle.plan.specs.Plan.{Plan, planOf}
-use Rattle.guard.specs.declared.Guarded.{Guarded}
+use Rattle.machine.specs.declared.Guarded.{Guarded}
 use Rattle.state.specs.Answer.{refusedAnswer}
-use Rattle.switch.specs.Step.{statusAt}
-use Rattle.guard.specs.Guard.{guardOf}
-use Rattle.switch.proofs.MachineLaws.{status-refused, status-let-in}
+use Rattle.machine.specs.Step.{statusAt}
+use Rattle.machine.specs.Guard.{guardOf}
+use Rattle.machine.proofs.MachineLaws.{status-refused, status-let-in}
 use Rattle.switch.proofs.status.Statement.{statement}
 use Rattle.switch.proofs.status.Tie as tie
 

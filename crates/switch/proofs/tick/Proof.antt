@@ -3,14 +3,14 @@
 use borrow.Author.Needs.{needs}
 use mathlib.Core.Path.{_≡_, sym, ap, _∙_}
 use Rattle.refusal.specs.declared.Verdict.the-variants.{Accepted}
-use Rattle.refusal.proofs.First.{answers}
+use Rattle.verdict.proofs.First.{answers}
 use Rattle.plan.specs.Plan.{Plan, planOf}
-use Rattle.guard.specs.declared.Guarded.{Guarded}
+use Rattle.machine.specs.declared.Guarded.{Guarded}
 use Rattle.state.specs.Answer.{refusedAnswer}
-use Rattle.switch.specs.Step.{timetable, tickAt}
-use Rattle.guard.specs.Guard.{guardOf}
-use Rattle.guard.proofs.GuardLaws.{plan-accepted}
-use Rattle.switch.proofs.MachineLaws.{tick-refused, tick-let-in}
+use Rattle.machine.specs.Step.{timetable, tickAt}
+use Rattle.machine.specs.Guard.{guardOf}
+use Rattle.machine.proofs.GuardLaws.{plan-accepted}
+use Rattle.machine.proofs.MachineLaws.{tick-refused, tick-let-in}
 use Rattle.switch.proofs.tick.Statement.{statement}
 use Rattle.switch.proofs.tick.Tie as tie
 

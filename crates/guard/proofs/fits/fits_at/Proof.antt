@@ -1,7 +1,7 @@
 -- `fits_at` meets its contract: the window is the target's, and each test is its callee's.
 -- Assumes nothing.
 use borrow.Author.Needs.{needs}
-use Rattle.guard.specs.Guard.{placedAt, fitsAt}
+use Rattle.machine.specs.Guard.{placedAt, fitsAt}
 use Rattle.guard.proofs.fits.fits_at.Statement.{statement}
 use Rattle.guard.proofs.fits.fits_at.Tie as tie
 

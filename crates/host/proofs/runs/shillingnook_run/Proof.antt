@@ -1,7 +1,7 @@
 -- `shillingnook_run` meets its contract: it is `run`, in words.
 -- Assumes nothing.
 use mathlib.Core.Path.{ap, _∙_}
-use Rattle.run.specs.declared.RunAnswer.{RunAnswer}
+use Rattle.machine.specs.declared.RunAnswer.{RunAnswer}
 use Rattle.wire.specs.Answers.{verdictWords}
 use Rattle.in_words.specs.Events.{leftWords}
 use Rattle.host.specs.Numbers.{countsOf}

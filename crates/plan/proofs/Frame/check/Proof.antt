@@ -7,7 +7,7 @@ use native.Mathlib.Omega.{arith}
 use borrow.Author.Needs.{needs}
 use lib.ListN.{length}
 use Rattle.refusal.specs.declared.Verdict.the-variants.{Accepted}
-use Rattle.refusal.specs.First.{firstFault}
+use Rattle.verdict.specs.First.{firstFault}
 use Rattle.records.specs.Records.{endOf}
 use Rattle.plan.specs.Plan.{Plan, planOf, windowCount, windowOf, CountsInRange}
 use Rattle.plan.specs.Faults.{wrongCounts}

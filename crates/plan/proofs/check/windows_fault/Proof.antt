@@ -6,8 +6,8 @@ use Prim.Native.Nat.{_≤_, _-_}
 use native.Mathlib.Numerals.{add-one}
 use native.Mathlib.Omega.{arith}
 use borrow.Author.Needs.{needs}
-use Rattle.refusal.specs.First.{firstFault}
-use Rattle.refusal.proofs.First.{starts, goes-on, stops, ends}
+use Rattle.verdict.specs.First.{firstFault}
+use Rattle.verdict.proofs.First.{starts, goes-on, stops, ends}
 use Rattle.records.specs.Records.{startOf, endOf}
 use Rattle.plan.specs.Parts.{windowFault, windowTest}
 use Rattle.plan.proofs.check.windows_fault.Statement.{statement}

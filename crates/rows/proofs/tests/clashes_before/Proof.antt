@@ -6,8 +6,9 @@ use Prim.Native.Nat.{_≤_, _-_}
 use native.Mathlib.Omega.{arith}
 use borrow.Author.Needs.{needs}
 use Rattle.refusal.specs.declared.Refusal.the-variants.{Clash}
-use Rattle.refusal.specs.First.{firstFault, refuseIf}
-use Rattle.refusal.proofs.First.{starts, goes-on, stops, ends}
+use Rattle.refusal.specs.First.{refuseIf}
+use Rattle.verdict.specs.First.{firstFault}
+use Rattle.verdict.proofs.First.{starts, goes-on, stops, ends}
 use Rattle.row.specs.Tests.{clashes}
 use Rattle.rows.specs.Tests.{clashTest, clashesBefore}
 use Rattle.rows.proofs.tests.clashes_before.Statement.{statement}

@@ -5,8 +5,8 @@ use mathlib.Core.Path.{_≡_, sym, ap, _∙_}
 use Prim.Native.Nat.{_-_, _≤_}
 use native.Mathlib.Omega.{arith}
 use borrow.Author.Needs.{needs}
-use Rattle.refusal.specs.First.{firstFault}
-use Rattle.refusal.proofs.First.{starts, goes-on, stops, ends}
+use Rattle.verdict.specs.First.{firstFault}
+use Rattle.verdict.proofs.First.{starts, goes-on, stops, ends}
 use Rattle.records.specs.Records.{maxPartition, nthRow}
 use Rattle.row.specs.Tests.{rowFault}
 use Rattle.row.proofs.TestLaws.{row-accepted}

@@ -5,7 +5,7 @@ use borrow.Author.Tests.{not-true, not-false}
 use mathlib.Core.Bool.{true}
 use mathlib.Core.Path.{_≡_, sym, _∙_}
 use Rattle.protocol.specs.Phase.{callOpen}
-use Rattle.switch.proofs.StepLaws.{at-zero, at-bad, at-unasked}
+use Rattle.machine.proofs.StepLaws.{at-zero, at-bad, at-unasked}
 use Rattle.switch.proofs.step.status_at.Statement.{statement}
 use Rattle.switch.proofs.step.status_at.Tie as tie
 

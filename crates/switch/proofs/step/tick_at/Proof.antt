@@ -5,7 +5,7 @@ use native.Mathlib.Omega.{arith}
 use mathlib.Core.Bool.{false}
 use mathlib.Core.Path.{_≡_, sym, _∙_}
 use Rattle.protocol.specs.Phase.{callOpen}
-use Rattle.switch.proofs.StepLaws.{at-in-switch, at-wrong, at-due}
+use Rattle.machine.proofs.StepLaws.{at-in-switch, at-wrong, at-due}
 use Rattle.switch.proofs.step.tick_at.Statement.{statement}
 use Rattle.switch.proofs.step.tick_at.Tie as tie
 

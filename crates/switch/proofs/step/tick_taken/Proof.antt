@@ -6,8 +6,8 @@ use mathlib.Core.Path.{_≡_, sym, ap, _∙_}
 use Rattle.timeline.specs.Windows.{nextTick}
 use Rattle.state.specs.State.{ticked}
 use Rattle.state.specs.Answer.{quiet}
-use Rattle.switch.specs.Step.{save}
-use Rattle.switch.proofs.StepLaws.{taken-last, taken-within}
+use Rattle.machine.specs.Step.{save}
+use Rattle.machine.proofs.StepLaws.{taken-last, taken-within}
 use Rattle.switch.proofs.step.tick_taken.Statement.{statement}
 use Rattle.switch.proofs.step.tick_taken.Tie as tie
 

@@ -15,7 +15,7 @@ use Rattle.protocol.specs.declared.Stage.the-variants.{Running, SaveCtx, Progra
 use Rattle.state.specs.declared.State.{State}
 use Rattle.state.specs.State.{asked, resumed}
 use Rattle.state.specs.Answer.{moved, quiet}
-use Rattle.switch.specs.Step.{zeroAt}
+use Rattle.machine.specs.Step.{zeroAt}
 use Rattle.switch.proofs.step.zero_at.Statement.{statement}
 use Rattle.switch.proofs.step.zero_at.Tie as tie
 

@@ -1,2 +1,0 @@
-pub mod FitsLaws
-pub mod GuardLaws

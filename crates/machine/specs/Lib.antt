@@ -1,0 +1,4 @@
+pub mod Guard
+pub mod Machine
+pub mod Run
+pub mod Step
