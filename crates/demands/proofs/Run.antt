@@ -1,7 +1,7 @@
 -- A run goes where the machine goes, turn by turn: `Tracks`, what holds of it before a call is logged, and `Logged`, after. The calls so far are the plan's,
 -- so the call that an answer brings is the next of them, and the log has room for it.
 -- Assumes nothing.
-use mathlib.Core.Bool.{Bool, true, false, cond, _&&_, true≢false, false≢true}
+use mathlib.Core.Bool.{Bool, true, false, cond, true≢false, false≢true}
 use mathlib.Core.List.{List, [], _∷_, _++_, append-nil, head-eq-of-cons-eq}
 use mathlib.Core.Logic.{inl, inr}
 use mathlib.Core.Path.{_≡_, refl, sym, ap, _∙_, subst}
@@ -10,7 +10,6 @@ use native.Mathlib.Nat.{zero-mod}
 use native.Mathlib.Numerals.{add-one}
 use native.Mathlib.Decide.{decLt}
 use native.Mathlib.Omega.{arith}
-use lib.Dec.{ltb}
 use lib.ListN.{length, getD, take, drop, set, length-set}
 use lib.Seq.{take-suc, length-take-le}
 use Rattle.plan.specs.Plan.{Plan, windowCount, ownerOf}
@@ -31,8 +30,8 @@ use Rattle.refusal.specs.Table.{numberOf, placeOf}
 use Rattle.verdict.specs.Outcome.{outcome}
 use Rattle.refusal.specs.declared.Verdict.{Verdict}
 use Rattle.refusal.specs.declared.Verdict.the-variants.{Accepted, Refused}
-use Rattle.log.specs.Log.{asks, logged, callsLogged, callLog}
-use Rattle.log.proofs.LogLaws.{too-few, long-enough, stays, grows, one-call-more}
+use Rattle.log.specs.Log.{asks, callLog}
+use Rattle.log.proofs.LogLaws.{too-few, long-enough, one-call-more}
 use Rattle.state.specs.declared.State.{State}
 use Rattle.state.specs.declared.Answer.{Answer}
 use Rattle.state.specs.Start.{coldMove}
@@ -49,7 +48,7 @@ use Rattle.machine.proofs.FitsLaws.{Fits}
 use Rattle.demands.specs.Machine.{HasStopped, Open, Sentences}
 use Rattle.machine.specs.declared.Course.{Course}
 use Rattle.machine.specs.declared.RunAnswer.{RunAnswer}
-use Rattle.machine.proofs.RunLaws.{no-tick, takes-tick, no-status, takes-status, turn-stopped, turn-open, turn-quiet, one-turn-fewer, one-turn-more, all-done, plan-first, then-16, runs-refused, runs-whole, let-in}
+use Rattle.machine.proofs.RunLaws.{no-tick, takes-tick, no-status, takes-status, turn-stopped, turn-open, turn-quiet, one-turn-fewer, one-turn-more, logs-the-call, logs-nothing, all-done, plan-first, then-16, runs-refused, runs-whole, let-in}
 use Rattle.machine.specs.Run.{endOfRun, took, turn, Progress, progress, withLogged, goOn as goOnRun, left, ended, runVerdict, coldCourse, whole, runOf, logOf}
 use Rattle.demands.specs.Run.{Next, ByTheRule, AtTheEnd, stoppingTick, IsTheMachine, RunsAreTheMachine, SentencesAt, RunsMeetDemand3, RunRefused, RefusedRuns}
 use Rattle.demands.proofs.Machine.{accepts, stopped-number, not-open, is-open, demand-3}
@@ -232,7 +231,7 @@ module _ (p : Plan) (a : plan.AcceptedIf p) (ticks statuses log₀ : List ℕ) (
       where
         of : (b : Bool) → asks call ≡ b → Tracks after 0 events
         of false e =
-            let same = stays (g .log) (g .calls) call (ap (λ (b : Bool). b && ltb (g .calls) (length (g .log) / 2)) e) in
+            let same = logs-nothing g (g .course) e in
             let one = ap (λ (b : Bool). g .calls + cond b 1 0) e in
             with-log (t .count ∙ one ∙ ap (λ (n : ℕ). n + 0) (sym (same .0)))
             (same .1 ∙ t .in-the-log ∙ ap (λ (n : ℕ). callLog (callAt p) n ++ drop (n * 2) log₀) (sym (same .0)))
@@ -240,9 +239,9 @@ module _ (p : Plan) (a : plan.AcceptedIf p) (ticks statuses log₀ : List ℕ) (
         of true e =
             let one = ap (λ (b : Bool). g .calls + cond b 1 0) e in
             let room : g .calls < length log₀ / 2 = omega (arith, t .count ∙ one, few, long) in
-            let more = grows (g .log) (g .calls) call e (omega (arith, room, t .as-long)) in
+            let more = logs-the-call g (g .course) e (omega (arith, room, t .as-long)) in
             let words = ap (λ (w : CallWords). set (set (g .log) (g .calls * 2) (w .number)) (g .calls * 2 + 1) (w .partition)) (its e) in
-            let k : callsLogged (g .log) (g .calls) call ≡ suc (g .calls) = more .0 ∙ add-one (g .calls) in
+            let k : after .calls ≡ suc (g .calls) = more .0 ∙ add-one (g .calls) in
             with-log (t .count ∙ one ∙ omega (arith, more .0))
             (more .1 ∙ words
             ∙ ap (λ (l : List ℕ). set (set l (g .calls * 2) (callAt p (g .calls) .number)) (g .calls * 2 + 1) (callAt p (g .calls) .partition)) (t .in-the-log)

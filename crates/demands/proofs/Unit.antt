@@ -5,7 +5,6 @@ use mathlib.Core.Bool.{Bool, true, false, cond}
 use mathlib.Core.List.{List, [], _∷_}
 use mathlib.Core.Path.{_≡_, sym, ap, subst}
 use Prim.Native.Nat.{ℕ}
-use lib.Dec.{eqb}
 use Rattle.plan.specs.Plan.{Plan, ownerOf}
 use Rattle.records.specs.Records.{AllU32}
 use Rattle.accepted.specs.Accepted.{AcceptedIf}
@@ -15,7 +14,7 @@ use Rattle.words.specs.Unit.{OthersOff, ExactlyTheRows}
 use Rattle.words.proofs.Programmed.{stay-off}
 use Rattle.words.proofs.Unit.{words-give-the-rows, nothing-of-another}
 use Rattle.history.specs.History.{machineOf, Entry, called, answered, history}
-use Rattle.demands.specs.Unit.{unitAfter, ShieldedWhileRunning}
+use Rattle.demands.specs.Unit.{bringsWords, unitAfter, ShieldedWhileRunning}
 use Rattle.demands.proofs.Machine.{accepts, while-running}
 
 module _ (p : Plan) (u32 : AllU32 (p .rows)) (a : AcceptedIf p) (mpu : Mpu) (count : ℕ) (others : OthersOff mpu count) where
@@ -23,7 +22,7 @@ module _ (p : Plan) (u32 : AllU32 (p .rows)) (a : AcceptedIf p) (mpu : Mpu) (cou
   unfolding unitAfter
   others-stay-off [] = others
   others-stay-off (answered word ∷ entries) = others-stay-off entries
-  others-stay-off (called call ∷ entries) = of (eqb (call .number) 2) (others-stay-off entries)
+  others-stay-off (called call ∷ entries) = of (bringsWords call) (others-stay-off entries)
     where
       of : (b : Bool) → OthersOff (unitAfter p mpu entries) count
           → OthersOff (cond b (programmed (unitAfter p mpu entries) (wordsOf p (call .partition) .slots)) (unitAfter p mpu entries)) count

@@ -1,12 +1,13 @@
--- What a turn takes, and how often there can be one.
+-- What a turn takes, how often there can be one, and what it leaves in the log.
 -- Assumes nothing.
-use mathlib.Core.Bool.{Bool, true, false}
+use mathlib.Core.Bool.{Bool, true, false, _&&_}
 use mathlib.Core.List.{List}
 use mathlib.Core.Path.{_≡_, refl, sym, ap, _∙_}
-use Prim.Native.Nat.{ℕ, zero, suc, _+_, _-_, _≤_, _<_}
+use Prim.Native.Nat.{ℕ, zero, suc, _+_, _-_, _/_, _≤_, _<_}
 use native.Mathlib.Decide.{decLt}
 use native.Mathlib.Omega.{arith}
 use borrow.Author.Tests.{le-leb, lt-leb}
+use lib.Dec.{ltb}
 use lib.ListN.{length, getD}
 use Rattle.refusal.specs.declared.Refusal.{Refusal}
 use Rattle.refusal.specs.declared.Refusal.the-variants.{LogTooShort}
@@ -18,13 +19,14 @@ use Rattle.refusal.proofs.Tests.{chosen, passed}
 use Rattle.plan.specs.Plan.{Plan}
 use Rattle.plan.specs.Faults.{verdictOf}
 use Rattle.protocol.specs.Phase.{isStopped}
-use Rattle.log.specs.Log.{tooShort, asks}
+use Rattle.log.specs.Log.{tooShort, asks, withCall}
+use Rattle.log.proofs.LogLaws.{stays, grows}
 use Rattle.state.specs.declared.Answer.{Answer}
 use Rattle.state.specs.Start.{coldMove, coldOf}
 use Rattle.state.proofs.StartLaws.{cold-refused, cold-accepted}
 use Rattle.machine.specs.Machine.{tickOf, statusOf}
 use Rattle.machine.specs.declared.Course.{Course}
-use Rattle.machine.specs.Run.{endOfRun, took, tickTurn, statusTurn, turn, Progress, onward, goOn, left, ended, refusedRun, runVerdict, whole, runOf, logOf}
+use Rattle.machine.specs.Run.{endOfRun, took, tickTurn, statusTurn, turn, Progress, withLogged, onward, goOn, left, ended, refusedRun, runVerdict, whole, runOf, logOf}
 
 module _ (p : Plan) (c : Course) where
   pub takes-tick : (ticks : List ℕ) → c .ticks < length ticks
@@ -99,6 +101,15 @@ module _ (p : Plan) (ticks statuses : List ℕ) (g : Progress) where
   unfolding goOn
   all-done zero done = refl
   all-done (suc turns) done = passed _ _ done
+
+-- the call of the last answer goes into the log, once, if there is one and room for it
+module _ (g : Progress) (c : Course) where
+  pub logs-the-call : asks (g .course .call) ≡ true → g .calls < length (g .log) / 2
+      → (withLogged g c .calls ≡ g .calls + 1) × (withLogged g c .log ≡ withCall (g .log) (g .calls) (g .course .call))
+  logs-the-call asked room = grows (g .log) (g .calls) (g .course .call) asked room
+
+  pub logs-nothing : asks (g .course .call) ≡ false → (withLogged g c .calls ≡ g .calls) × (withLogged g c .log ≡ g .log)
+  logs-nothing none = stays (g .log) (g .calls) (g .course .call) (ap (λ (b : Bool). b && ltb (g .calls) (length (g .log) / 2)) none)
 
 -- the verdict: the plan's own numbers, then 16
 cold-says : (p : Plan) (v : Verdict) → verdictOf p ≡ v → coldOf p .verdict ≡ v

@@ -71,25 +71,6 @@ one-refuses Accepted w r e = inr (refl, e)
 one-refuses (Refused x) w r e = inl e
 
 module _ (test : ℕ → Verdict) where
-  pub each-accepts : (first left : ℕ) → firstFault test first left ≡ Accepted
-      → (j : ℕ) → first ≤ j → j < first + left → test j ≡ Accepted
-  unfolding firstFault orElse
-  each-accepts first zero e j low high = absurd (omega arith)
-  each-accepts first (suc left) e j low high =
-      let p = both-accept (test first) (firstFault test (suc first) left) .0 e in
-      elim (ℕ-discrete first j) [
-        | yes here ↦ rw here at (p .0)
-        | no later ↦ each-accepts (suc first) left (p .1) j (omega arith) (omega arith)
-      ]
-
-  pub all-accept : (first left : ℕ) → ((j : ℕ) → first ≤ j → j < first + left → test j ≡ Accepted)
-      → firstFault test first left ≡ Accepted
-  unfolding firstFault orElse
-  all-accept first zero each = refl
-  all-accept first (suc left) each =
-      both-accept (test first) (firstFault test (suc first) left) .1
-      (each first (omega arith) (omega arith), all-accept (suc first) left (λ j low high. each j (omega arith) (omega arith)))
-
   pub first-refuses : (first left : ℕ) (r : Refusal) → firstFault test first left ≡ Refused r
       → (at : ℕ) × FirstAt test first left r at
   unfolding firstFault orElse
@@ -136,6 +117,25 @@ module _ (test : ℕ → Verdict) where
               none-before = λ j low high. h .none-before j (omega arith) high;
             }))
       ]
+
+  pub each-accepts : (first left : ℕ) → firstFault test first left ≡ Accepted
+      → (j : ℕ) → first ≤ j → j < first + left → test j ≡ Accepted
+  unfolding firstFault orElse
+  each-accepts first zero e j low high = absurd (omega arith)
+  each-accepts first (suc left) e j low high =
+      let p = both-accept (test first) (firstFault test (suc first) left) .0 e in
+      elim (ℕ-discrete first j) [
+        | yes here ↦ rw here at (p .0)
+        | no later ↦ each-accepts (suc first) left (p .1) j (omega arith) (omega arith)
+      ]
+
+  pub all-accept : (first left : ℕ) → ((j : ℕ) → first ≤ j → j < first + left → test j ≡ Accepted)
+      → firstFault test first left ≡ Accepted
+  unfolding firstFault orElse
+  all-accept first zero each = refl
+  all-accept first (suc left) each =
+      both-accept (test first) (firstFault test (suc first) left) .1
+      (each first (omega arith) (omega arith), all-accept (suc first) left (λ j low high. each j (omega arith) (omega arith)))
 
   -- the fold's steps, for a loop that counts i up to n: none is done, the test passes, it refuses, none is left
   pub starts : (n : ℕ) → firstFault test 0 n ≡ firstFault test 0 (n - 0)
