@@ -6,19 +6,13 @@ use refusal::Refusal;
 use refusal::Verdict;
 use state::Answer;
 
+const TWO_TO_32: i64 = 4294967296;
+
 // A host code is below zero: two's complement in 32 bits.
 fn code_word(r: Refusal) -> u32
     ensures { λ w. ⌜ w ≡ twos (hostCodeOf r) ⌝ }
 {
-    match refusal::number(r) {
-        4 | 6 | 15 => 4294967294, // ENOENT, -2
-        10 | 16 => 4294967268, // ENOSPC, -28
-        11 => 4294967184, // EADDRINUSE, -112
-        13 => 4294967285, // EAGAIN, -11
-        14 => 4294967156, // ECANCELED, -140
-        17 => 4294967287, // EBADF, -9
-        _ => 4294967274, // EINVAL, -22
-    }
+    (refusal::host_code(r) as i64 + TWO_TO_32) as u32
 }
 
 pub fn verdict_words(verdict: Verdict) -> [u32; 3]
