@@ -1,31 +1,16 @@
 // Document 01's cases on how long the lists of a plan may be, one to a line, with some neighbours: the verdict's number and place, 0 0 where
 // accepted.
 ghost use Prim.Native.Nat.{_≤_, _<_};
+use output::end;
+use output::put_verdict;
+use output::say;
 use plan::Frame;
-use refusal::Verdict;
-
-const OUT: i32 = 1;
-
-fn put(n: u32) {
-    io::write_all(OUT, b" ");
-    io::print_decimal(OUT, n as u64);
-}
-
-fn put_verdict(verdict: Verdict) {
-    let Verdict::Refused(r) = verdict else {
-        put(0);
-        put(0);
-        return;
-    };
-    put(refusal::number(r));
-    put(refusal::place(r));
-}
 
 fn show(name: &[u8], length: u32, windows: &[u32], rows: &[u32]) {
     let frame = Frame { length };
-    io::write_all(OUT, name);
+    say(name);
     put_verdict(frame.check(windows, rows));
-    io::write_all(OUT, b"\n");
+    end();
 }
 
 // Record i of every list here starts with a partition, i * 32, 32 and 1: a window of 32 ticks, or a writable row of 32 bytes.

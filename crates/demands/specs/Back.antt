@@ -1,6 +1,6 @@
--- States that go out in words and come back (document 01, "The machine", and "any plan, tick, status word or state may arrive"). What eight words are read as is a state exactly
--- if they are that state's words: so a state that goes out and comes back is the same state, and words that no state has (a phase or a cause that does not exist, a mark that is
--- neither 0 nor 1, a word where that phase has none) are none.
+-- States that go out in words and come back (document 01, "The machine", and "any plan, tick, status word or state may arrive"). What eight words are
+-- read as is a state exactly if they are that state's words: so a state that goes out and comes back is the same state, and words that no state has
+-- (a phase or a cause that does not exist, a mark that is neither 0 nor 1, a word where that phase has none) are none.
 use mathlib.Core.List.{List, [], _∷_}
 use mathlib.Core.Logic.{_↔_}
 use mathlib.Core.Path.{_≡_}

@@ -1,6 +1,7 @@
--- Nothing is lost on the way through words (document 01: "a refusal hands back the state it got"): events on the words of a state are the machine's events on that state, and what is left where the words were lent are the words of
--- the state that it answers, also on a refusal. So what holds of the machine holds of the machine in words. On a refusal the words are as they
--- came, whatever they were. Words that are no state's get the plan's number, then 17.
+-- Nothing is lost on the way through words (document 01: "a refusal hands back the state it got"): events on the words of a state are the machine's
+-- events on that state, and what is left where the words were lent are the words of the state that it answers, also on a refusal. So what holds of
+-- the machine holds of the machine in words. On a refusal the words are as they came, whatever they were. Words that are no state's get the plan's
+-- number, then 17.
 use mathlib.Core.List.{List}
 use mathlib.Core.Path.{_≡_}
 use Prim.Native.Nat.{ℕ}

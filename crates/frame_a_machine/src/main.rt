@@ -1,5 +1,7 @@
 // The machine over frame A of document 01: the cold start, the ticks of window 0, the switch to window 1, a tick that is not due, and one
 // more. A line says what was sent, then where the machine is, the window and the due tick, and what it asks of the host.
+use output::say;
+use output::say_with;
 use plan::Frame;
 use protocol::Call;
 use protocol::Cause;
@@ -10,8 +12,6 @@ use state::Answer;
 use state::State;
 use switch::status;
 use switch::tick;
-
-const OUT: i32 = 1;
 
 const FRAME: Frame = Frame { length: 50 };
 
@@ -24,15 +24,6 @@ const EVENTS: usize = 17;
 const IS_TICK: [u32; EVENTS] = [0, 0, 1, 1, 1, 1, 1, 1, 1, 1, 1, 1, 0, 0, 0, 1, 1];
 
 const WORDS: [u32; EVENTS] = [0, 0, 0, 1, 2, 3, 4, 5, 6, 7, 8, 9, 0, 0, 0, 12, 13];
-
-fn say(words: &[u8]) {
-    io::write_all(OUT, words);
-}
-
-fn say_with(words: &[u8], n: u32) {
-    say(words);
-    io::print_decimal(OUT, n as u64);
-}
 
 fn say_stage(stage: Stage) {
     match stage {

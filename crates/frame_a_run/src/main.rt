@@ -1,5 +1,8 @@
 // A whole run of frame A of document 01, in words: what the machine asks of the host, call by call, who runs when, and why it stopped. It is given ticks 0 to
 // 30, so that windows 0 and 1 pass, then tick 40, which is not due; every call is answered with zero.
+use output::say;
+use output::say_wide;
+use output::say_with;
 use plan::Frame;
 use protocol::Cause;
 use protocol::Phase;
@@ -10,8 +13,6 @@ use records::window_end;
 use run::RunAnswer;
 use run::run;
 use timeline::next_window;
-
-const OUT: i32 = 1;
 
 const FRAME: Frame = Frame { length: 50 };
 
@@ -55,27 +56,12 @@ const TICKS: [u32; 32] = [
     40,
 ];
 
-fn say(words: &[u8]) {
-    io::write_all(OUT, words);
-}
-
-fn say_with(words: &[u8], n: u32) {
-    say(words);
-    io::print_decimal(OUT, n as u64);
-}
-
-fn say_count(words: &[u8], n: usize) {
-    say(words);
-    io::print_decimal(OUT, n as u64);
-}
-
 // The ticks of window w, which the partition that was resumed has now.
 fn say_window(windows: &[u32], w: u32) {
     let window = nth_window(windows, WindowNo(w));
     say_with(b": it runs in window ", w);
     say_with(b", which starts at tick ", window.offset);
-    say(b" and ends before tick ");
-    io::print_decimal(OUT, window_end(window));
+    say_wide(b" and ends before tick ", window_end(window));
 }
 
 // One record of the log; w is the window that is next to run, and after a resume the one after it.
@@ -158,9 +144,9 @@ fn say_end(end: RunAnswer) {
     let phase = state.phase;
     say_phase(phase);
     say_with(b"; tick ", state.due);
-    say_count(b" was due. It had used ", end.ticks);
-    say_count(b" ticks and ", end.statuses);
-    say_count(b" statuses, and written ", end.calls);
+    say_wide(b" was due. It had used ", end.ticks as u64);
+    say_wide(b" ticks and ", end.statuses as u64);
+    say_wide(b" statuses, and written ", end.calls as u64);
     say(b" calls.\n");
 }
 

@@ -1,29 +1,10 @@
 // Document 01's cases for the frame of the four-window port, one to a line: the frames' verdicts, then lookups in frame A. A verdict is its number
 // and place, 0 0 where accepted.
 use major_frame::MajorFrame;
-use refusal::Verdict;
-
-const OUT: i32 = 1;
-
-fn put(n: u32) {
-    io::write_all(OUT, b" ");
-    io::print_decimal(OUT, n as u64);
-}
-
-fn put_verdict(name: &[u8], verdict: Verdict) {
-    io::write_all(OUT, name);
-    let Verdict::Refused(r) = verdict else {
-        put(0);
-        put(0);
-        return;
-    };
-    put(refusal::number(r));
-    put(refusal::place(r));
-}
-
-fn end() {
-    io::write_all(OUT, b"\n");
-}
+use output::end;
+use output::put;
+use output::put_verdict;
+use output::say;
 
 // Owners 0, 1, 0, 2, as in frame A.
 fn frame(
@@ -50,7 +31,8 @@ fn frame_a() -> MajorFrame {
 }
 
 fn show_frame(name: &[u8], f: MajorFrame) {
-    put_verdict(name, f.check());
+    say(name);
+    put_verdict(f.check());
     end();
 }
 
@@ -73,7 +55,8 @@ fn show_frames() {
 fn show_lookup(name: &[u8], t: u32) {
     let r = frame_a().current_window(t);
     let verdict = r.verdict;
-    put_verdict(name, verdict);
+    say(name);
+    put_verdict(verdict);
     put(r.window);
     end();
 }

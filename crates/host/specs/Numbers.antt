@@ -1,5 +1,5 @@
--- What the C interface writes (document 01's table of refusals: number, place, host code): each answer begins with these three, three zeros where accepted (`verdictWords` of crate
--- `wire`). After them, on a refusal, "lookups answer 0, region words all zero"; the core's answers already are.
+-- What the C interface writes (document 01's table of refusals: number, place, host code): each answer begins with these three, three zeros where
+-- accepted (`verdictWords` of crate `wire`). After them, on a refusal, "lookups answer 0, region words all zero"; the core's answers already are.
 use mathlib.Core.List.{List, [], _∷_, _++_}
 use Prim.Native.Nat.{ℕ}
 use lib.ListN.{getD}

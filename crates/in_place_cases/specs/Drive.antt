@@ -1,5 +1,5 @@
--- A state that is lent four times (document 01: "`tick` and the three marks on a four-window state lent and changed in place"), to `tick` and to each mark in turn: what each call answers and leaves is the by-value step's, from the state that the call
--- before it left.
+-- A state that is lent four times (document 01: "`tick` and the three marks on a four-window state lent and changed in place"), to `tick` and to each
+-- mark in turn: what each call answers and leaves is the by-value step's, from the state that the call before it left.
 use Prim.Native.Nat.{ℕ}
 use Rattle.switcher.specs.declared.Switcher.{Switcher}
 use Rattle.switcher.specs.declared.Stepped.{Stepped}

@@ -2,33 +2,16 @@
 // the boundary, and where it is refused. A line has what the call told, the refusal's number and place (0 0 where accepted) and whether the step was
 // taken, and the state that it left: window, phase (0 Running to 3 Resume) and mark.
 use major_frame::MajorFrame;
-use refusal::Verdict;
+use output::end;
+use output::put;
+use output::put_flag;
+use output::put_verdict;
+use output::say;
 use switcher::Stepped;
 use switcher::SwPhase;
 use switcher::Switcher;
 
 mod drive;
-
-const OUT: i32 = 1;
-
-fn put(n: u32) {
-    io::write_all(OUT, b" ");
-    io::print_decimal(OUT, n as u64);
-}
-
-fn put_flag(flag: bool) {
-    put(if flag { 1 } else { 0 });
-}
-
-fn put_verdict(verdict: Verdict) {
-    let Verdict::Refused(r) = verdict else {
-        put(0);
-        put(0);
-        return;
-    };
-    put(refusal::number(r));
-    put(refusal::place(r));
-}
 
 fn put_state(s: Switcher) {
     let phase = s.phase;
@@ -41,11 +24,11 @@ fn put_state(s: Switcher) {
 fn show(name: &[u8], r: Stepped) -> Switcher {
     let verdict = r.verdict;
     let state = r.state;
-    io::write_all(OUT, name);
+    say(name);
     put_verdict(verdict);
     put_flag(r.done);
     put_state(state);
-    io::write_all(OUT, b"\n");
+    end();
     state
 }
 

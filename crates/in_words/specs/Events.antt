@@ -1,5 +1,5 @@
--- The machine's events on a state in words, any eight of them: what is no state is refused by 17 like any other state that cannot be, after the plan's own numbers; and a
--- refusal leaves the words as they came (document 01, "Refusal numbers and their place").
+-- The machine's events on a state in words, any eight of them: what is no state is refused by 17 like any other state that cannot be, after the
+-- plan's own numbers; and a refusal leaves the words as they came (document 01, "Refusal numbers and their place").
 use mathlib.Core.List.{List}
 use Prim.Native.Nat.{ℕ}
 use Rattle.refusal.specs.declared.Refusal.the-variants.{StrangeState}

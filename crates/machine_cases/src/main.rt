@@ -1,54 +1,26 @@
 // The machine's refusals, 13, 14 and 17, at their edges, one case to a line, with the steps beside them: states of frame A and one event. A line has the
 // verdict's number and place; the phase's number, the stage it is in or stopped in, the cause and its word; current and target window, the due tick and the
 // mark; then the call's two words.
+use output::end;
+use output::put;
+use output::put_flag;
+use output::put_phase;
+use output::put_verdict;
+use output::say;
 use plan::Frame;
 use protocol::CallWords;
 use protocol::Cause;
 use protocol::Phase;
-use protocol::PhaseWords;
 use protocol::Stage;
 use records::WindowNo;
-use refusal::Verdict;
 use state::Answer;
 use state::State;
 use switch::status;
 use switch::tick;
 
-const OUT: i32 = 1;
-
 const FRAME: Frame = Frame { length: 50 };
 
 const FRAME_A: [u32; 12] = [0, 0, 10, 1, 10, 20, 0, 30, 5, 2, 35, 15];
-
-fn put(n: u32) {
-    io::write_all(OUT, b" ");
-    io::print_decimal(OUT, n as u64);
-}
-
-fn put_verdict(verdict: Verdict) {
-    let Verdict::Refused(r) = verdict else {
-        put(0);
-        put(0);
-        return;
-    };
-    put(refusal::number(r));
-    put(refusal::place(r));
-}
-
-fn put_phase(words: PhaseWords) {
-    put(words.phase);
-    put(words.stage);
-    put(words.cause);
-    put(words.word);
-}
-
-fn put_mark(swapped: bool) {
-    if swapped {
-        put(1);
-        return;
-    }
-    put(0);
-}
 
 fn put_state(state: State) {
     let phase = state.phase;
@@ -56,7 +28,7 @@ fn put_state(state: State) {
     put(state.current.0);
     put(state.target.0);
     put(state.due);
-    put_mark(state.swapped);
+    put_flag(state.swapped);
 }
 
 fn put_call(words: CallWords) {
@@ -71,16 +43,16 @@ fn show(answer: Answer) {
     put_verdict(verdict);
     put_state(state);
     put_call(call.words());
-    io::write_all(OUT, b"\n");
+    end();
 }
 
 fn show_tick(name: &[u8], state: State, t: u32) {
-    io::write_all(OUT, name);
+    say(name);
     show(tick(state, FRAME, &FRAME_A, &[], t));
 }
 
 fn show_status(name: &[u8], state: State, word: u32) {
-    io::write_all(OUT, name);
+    say(name);
     show(status(state, FRAME, &FRAME_A, &[], word));
 }
 

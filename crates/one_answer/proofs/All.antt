@@ -79,6 +79,17 @@ use Rattle.in_place.proofs.mark_swapped as in-place-mark-swapped
 use Rattle.in_place.proofs.mark_resumed as in-place-mark-resumed
 use Rattle.promise.proofs.of_any_plan.Reads as promise-of-any-plan
 use Rattle.promise.proofs.of_any_state.Reads as promise-of-any-state
+use Rattle.output.proofs.say.Reads as output-say
+use Rattle.output.proofs.say_number.Reads as output-say-number
+use Rattle.output.proofs.say_with.Reads as output-say-with
+use Rattle.output.proofs.say_wide.Reads as output-say-wide
+use Rattle.output.proofs.say_hex.Reads as output-say-hex
+use Rattle.output.proofs.say_verdict.Reads as output-say-verdict
+use Rattle.output.proofs.put.Reads as output-put
+use Rattle.output.proofs.put_flag.Reads as output-put-flag
+use Rattle.output.proofs.put_verdict.Reads as output-put-verdict
+use Rattle.output.proofs.put_phase.Reads as output-put-phase
+use Rattle.output.proofs.end.Reads as output-end
 use Rattle.wire.proofs.verdict_words.Reads as wire-verdict-words
 use Rattle.wire.proofs.answer_words.Reads as wire-answer-words
 use Rattle.wire.proofs.state_words.Reads as wire-state-words
@@ -291,6 +302,39 @@ promise-of-any-plan-one κs xs r r′ ends ends′ e e′ = refl
 
 pub promise-of-any-state-one : OneAnswer promise-of-any-state.Post
 promise-of-any-state-one κs xs r r′ ends ends′ e e′ = refl
+
+pub output-say-one : OneAnswer output-say.Post
+output-say-one κs xs r r′ ends ends′ e e′ = refl
+
+pub output-say-number-one : OneAnswer output-say-number.Post
+output-say-number-one κs xs r r′ ends ends′ e e′ = refl
+
+pub output-say-with-one : OneAnswer output-say-with.Post
+output-say-with-one κs xs r r′ ends ends′ e e′ = refl
+
+pub output-say-wide-one : OneAnswer output-say-wide.Post
+output-say-wide-one κs xs r r′ ends ends′ e e′ = refl
+
+pub output-say-hex-one : OneAnswer output-say-hex.Post
+output-say-hex-one κs xs r r′ ends ends′ e e′ = refl
+
+pub output-say-verdict-one : OneAnswer output-say-verdict.Post
+output-say-verdict-one κs xs r r′ ends ends′ e e′ = refl
+
+pub output-put-one : OneAnswer output-put.Post
+output-put-one κs xs r r′ ends ends′ e e′ = refl
+
+pub output-put-flag-one : OneAnswer output-put-flag.Post
+output-put-flag-one κs xs r r′ ends ends′ e e′ = refl
+
+pub output-put-verdict-one : OneAnswer output-put-verdict.Post
+output-put-verdict-one κs xs r r′ ends ends′ e e′ = refl
+
+pub output-put-phase-one : OneAnswer output-put-phase.Post
+output-put-phase-one κs xs r r′ ends ends′ e e′ = refl
+
+pub output-end-one : OneAnswer output-end.Post
+output-end-one κs xs r r′ ends ends′ e e′ = refl
 
 pub wire-verdict-words-one : OneAnswer wire-verdict-words.Post
 wire-verdict-words-one κs xs r r′ ends ends′ e e′ = both e e′

@@ -1,6 +1,11 @@
 // Replays a list of cases within the original's preconditions, and writes what the four-window port answers, a line a case: the file `stdout` has what the
 // original's own bodies answered (tests/original says how the list was made, and what its numbers mean).
 use major_frame::MajorFrame;
+use output::end;
+use output::put;
+use output::put_flag;
+use output::say;
+use output::say_number;
 use refusal::Verdict;
 use run_switch::SeamCall;
 use switcher::Stepped;
@@ -9,57 +14,42 @@ use switcher::Switcher;
 
 mod read;
 
-const OUT: i32 = 1;
-
-fn put(n: u32) {
-    io::print_decimal(OUT, n as u64);
-}
-
-fn put_next(n: u32) {
-    io::write_all(OUT, b" ");
-    put(n);
-}
-
-fn put_flag(flag: bool) {
-    put(if flag { 1 } else { 0 });
-}
-
 // No case but those of `check` is refused, so this line is never to be seen.
 fn put_refusal(verdict: Verdict) {
     let Verdict::Refused(r) = verdict else {
         return;
     };
-    io::write_all(OUT, b"refused ");
-    put(refusal::number(r));
-    io::write_all(OUT, b" ");
+    say(b"refused ");
+    say_number(refusal::number(r));
+    say(b" ");
 }
 
 fn put_state(s: Switcher) {
     let phase = s.phase;
-    put(s.cur);
-    put_next(switcher::phase_number(phase));
-    put_next(if s.swapped { 1 } else { 0 });
+    say_number(s.cur);
+    put(switcher::phase_number(phase));
+    put_flag(s.swapped);
 }
 
 fn put_step(r: Stepped) {
     let verdict = r.verdict;
     let state = r.state;
     put_refusal(verdict);
-    put_flag(r.done);
-    io::write_all(OUT, b" ");
+    say_number(if r.done { 1 } else { 0 });
+    say(b" ");
     put_state(state);
 }
 
 fn put_call(call: SeamCall) {
-    put_next(run_switch::call_number(call));
-    put_next(run_switch::call_partition(call));
+    put(run_switch::call_number(call));
+    put(run_switch::call_partition(call));
 }
 
 fn show_check(f: MajorFrame) {
     let verdict = f.check();
     match verdict {
-        Verdict::Accepted => put(1),
-        Verdict::Refused(_) => put(0),
+        Verdict::Accepted => say_number(1),
+        Verdict::Refused(_) => say_number(0),
     }
 }
 
@@ -67,7 +57,7 @@ fn show_window(f: MajorFrame, t: u32) {
     let located = f.current_window(t);
     let verdict = located.verdict;
     put_refusal(verdict);
-    put(located.window);
+    say_number(located.window);
 }
 
 fn show_new(f: MajorFrame) {
@@ -136,7 +126,7 @@ fn show(c: [u32; 20]) {
         7 => put_step(s.mark_resumed()),
         _ => show_switch(s, x, c[18], c[19]),
     }
-    io::write_all(OUT, b"\n");
+    end();
 }
 
 fn main() {

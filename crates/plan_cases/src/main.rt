@@ -1,32 +1,18 @@
 // Document 01's cases on plans, one to a line, with some neighbours: the verdict's number and place, 0 0 where accepted. A line on a tick
 // has the window too.
+use output::end;
+use output::put;
+use output::put_verdict;
+use output::say;
 use plan::Frame;
-use refusal::Verdict;
-
-const OUT: i32 = 1;
 
 const FRAME_A: [u32; 12] = [0, 0, 10, 1, 10, 20, 0, 30, 5, 2, 35, 15];
 
-fn put(n: u32) {
-    io::write_all(OUT, b" ");
-    io::print_decimal(OUT, n as u64);
-}
-
-fn put_verdict(verdict: Verdict) {
-    let Verdict::Refused(r) = verdict else {
-        put(0);
-        put(0);
-        return;
-    };
-    put(refusal::number(r));
-    put(refusal::place(r));
-}
-
 fn show(name: &[u8], length: u32, windows: &[u32], rows: &[u32]) {
     let frame = Frame { length };
-    io::write_all(OUT, name);
+    say(name);
     put_verdict(frame.check(windows, rows));
-    io::write_all(OUT, b"\n");
+    end();
 }
 
 fn show_windows(name: &[u8], length: u32, windows: &[u32]) {
@@ -115,13 +101,13 @@ fn put_window(windows: &[u32], t: u32) {
     let verdict = located.verdict;
     put_verdict(verdict);
     put(located.window.0);
-    io::write_all(OUT, b"\n");
+    end();
 }
 
 fn show_tick(t: u32) {
-    io::write_all(OUT, b"tick");
+    say(b"tick");
     put(t);
-    io::write_all(OUT, b":");
+    say(b":");
     put_window(&FRAME_A, t);
 }
 
@@ -132,7 +118,7 @@ fn ticks() {
     show_tick(49);
     show_tick(50);
     show_tick(4294967295);
-    io::write_all(OUT, b"tick 50 of a plan refused:");
+    say(b"tick 50 of a plan refused:");
     put_window(&[0, 0, 10, 1, 10, 39], 50);
 }
 

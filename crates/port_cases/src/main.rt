@@ -1,33 +1,16 @@
-// Document 01's cases for the switcher of the four-window port, one to a line: steps and switches over frame A. A verdict is its number and place, 0 0 where accepted; a state is its window, phase (0 Running to 3 Resume) and mark.
+// Document 01's cases for the switcher of the four-window port, one to a line: steps and switches over frame A. A verdict is its number and place,
+// 0 0 where accepted; a state is its window, phase (0 Running to 3 Resume) and mark.
 use major_frame::MajorFrame;
-use refusal::Verdict;
+use output::end;
+use output::put;
+use output::put_flag;
+use output::put_verdict;
+use output::say;
 use run_switch::Calls;
 use run_switch::SeamCall;
 use switcher::Stepped;
 use switcher::SwPhase;
 use switcher::Switcher;
-
-const OUT: i32 = 1;
-
-fn put(n: u32) {
-    io::write_all(OUT, b" ");
-    io::print_decimal(OUT, n as u64);
-}
-
-fn put_flag(flag: bool) {
-    put(if flag { 1 } else { 0 });
-}
-
-fn put_verdict(name: &[u8], verdict: Verdict) {
-    io::write_all(OUT, name);
-    let Verdict::Refused(r) = verdict else {
-        put(0);
-        put(0);
-        return;
-    };
-    put(refusal::number(r));
-    put(refusal::place(r));
-}
 
 fn put_state(s: Switcher) {
     let phase = s.phase;
@@ -50,15 +33,12 @@ fn put_calls(calls: Calls) {
     put_call(third);
 }
 
-fn end() {
-    io::write_all(OUT, b"\n");
-}
-
 // The state is handed on.
 fn show_step(name: &[u8], r: Stepped) -> Switcher {
     let verdict = r.verdict;
     let state = r.state;
-    put_verdict(name, verdict);
+    say(name);
+    put_verdict(verdict);
     put_flag(r.done);
     put_state(state);
     end();
@@ -72,7 +52,8 @@ fn show_tick(name: &[u8], s: Switcher, t: u32) -> Switcher {
 fn show_switch(name: &[u8], s: Switcher, save: u32, swap: u32, resume: u32) {
     let r = run_switch::run_switch(s, save, swap, resume);
     let verdict = r.verdict;
-    put_verdict(name, verdict);
+    say(name);
+    put_verdict(verdict);
     put_state(r.state);
     put_calls(r.calls);
     end();
@@ -92,7 +73,8 @@ fn show_new(name: &[u8], f: MajorFrame) -> Switcher {
     let r = Switcher::new(f);
     let verdict = r.verdict;
     let state = r.state;
-    put_verdict(name, verdict);
+    say(name);
+    put_verdict(verdict);
     put_state(state);
     end();
     state

@@ -2,13 +2,15 @@
 // cause and its word; current and target window and the due tick; ticks and statuses used, calls written; then the log's words up to two past the last record.
 // Every word of a log is 9 before the run.
 ghost use Prim.Native.Nat.{_≤_};
+use output::end;
+use output::put;
+use output::put_phase;
+use output::put_verdict;
+use output::say;
+use output::say_wide;
 use plan::Frame;
-use protocol::PhaseWords;
-use refusal::Verdict;
 use run::RunAnswer;
 use run::run;
-
-const OUT: i32 = 1;
 
 const FRAME_A: [u32; 12] = [0, 0, 10, 1, 10, 20, 0, 30, 5, 2, 35, 15];
 
@@ -16,33 +18,6 @@ const TEN_TICKS: [u32; 10] = [0, 1, 2, 3, 4, 5, 6, 7, 8, 9];
 
 // The longest log that a case lends.
 const WORDS: usize = 64;
-
-fn put(n: u32) {
-    io::write_all(OUT, b" ");
-    io::print_decimal(OUT, n as u64);
-}
-
-fn put_count(n: usize) {
-    io::write_all(OUT, b" ");
-    io::print_decimal(OUT, n as u64);
-}
-
-fn put_verdict(verdict: Verdict) {
-    let Verdict::Refused(r) = verdict else {
-        put(0);
-        put(0);
-        return;
-    };
-    put(refusal::number(r));
-    put(refusal::place(r));
-}
-
-fn put_phase(words: PhaseWords) {
-    put(words.phase);
-    put(words.stage);
-    put(words.cause);
-    put(words.word);
-}
 
 fn put_end(end: RunAnswer) {
     let verdict = end.verdict;
@@ -53,9 +28,9 @@ fn put_end(end: RunAnswer) {
     put(state.current.0);
     put(state.target.0);
     put(state.due);
-    put_count(end.ticks);
-    put_count(end.statuses);
-    put_count(end.calls);
+    say_wide(b" ", end.ticks as u64);
+    say_wide(b" ", end.statuses as u64);
+    say_wide(b" ", end.calls as u64);
 }
 
 // The words of so many calls and of one record more, as far as the log goes.
@@ -79,12 +54,12 @@ fn show_in(
     log: &mut [u32],
 ) {
     let frame = Frame { length };
-    let end = run(frame, windows, &[], ticks, statuses, log);
-    io::write_all(OUT, name);
-    put_end(end);
-    io::write_all(OUT, b" log");
-    put_log(log, end.calls);
-    io::write_all(OUT, b"\n");
+    let ran = run(frame, windows, &[], ticks, statuses, log);
+    say(name);
+    put_end(ran);
+    say(b" log");
+    put_log(log, ran.calls);
+    end();
 }
 
 fn show(name: &[u8], length: u32, windows: &[u32], ticks: &[u32], statuses: &[u32], words: usize)

@@ -1,5 +1,6 @@
--- A state in eight words (document 01, "The machine": "a state has the current window, the target window, the due tick, the `swapped` mark and a phase"): the four, then the
--- phase's four words (`phaseWords` of crate `protocol`). Any eight words may come back; those that no state has are no state.
+-- A state in eight words (document 01, "The machine": "a state has the current window, the target window, the due tick, the `swapped` mark and a
+-- phase"): the four, then the phase's four words (`phaseWords` of crate `protocol`). Any eight words may come back; those that no state has are no
+-- state.
 use mathlib.Core.Bool.{Bool, true, false, cond, _&&_}
 use mathlib.Core.List.{List, [], _∷_}
 use Prim.Native.Nat.{ℕ}

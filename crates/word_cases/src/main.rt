@@ -1,11 +1,12 @@
 // Document 01's cases on region words, with some neighbours, beside the windows of frame A: the verdict, then the eight pairs in
 // hexadecimal.
+use output::end;
+use output::put_verdict;
+use output::say;
+use output::say_hex;
 use plan::Frame;
 use records::PartitionNo;
-use refusal::Verdict;
 use words::Pair;
-
-const OUT: i32 = 1;
 
 const FRAME_A: [u32; 12] = [0, 0, 10, 1, 10, 20, 0, 30, 5, 2, 35, 15];
 
@@ -69,26 +70,9 @@ const EIGHT_AND_ONE: [u32; 36] = [
     1,
 ];
 
-fn put(n: u32) {
-    io::write_all(OUT, b" ");
-    io::print_decimal(OUT, n as u64);
-}
-
-fn put_verdict(verdict: Verdict) {
-    let Verdict::Refused(r) = verdict else {
-        put(0);
-        put(0);
-        return;
-    };
-    put(refusal::number(r));
-    put(refusal::place(r));
-}
-
 fn put_pair(pair: Pair) {
-    io::write_all(OUT, b" ");
-    io::print_hex(OUT, pair.first as u64, 8);
-    io::write_all(OUT, b":");
-    io::print_hex(OUT, pair.second as u64, 8);
+    say_hex(b" ", pair.first);
+    say_hex(b":", pair.second);
 }
 
 fn put_slots(slots: [Pair; 8]) {
@@ -104,10 +88,10 @@ fn show(name: &[u8], rows: &[u32], partition: u32) {
     let words = region::words_of(frame, &FRAME_A, rows, PartitionNo(partition));
     let verdict = words.verdict;
     let slots = words.slots;
-    io::write_all(OUT, name);
+    say(name);
     put_verdict(verdict);
     put_slots(slots);
-    io::write_all(OUT, b"\n");
+    end();
 }
 
 fn show_four(name: &[u8], partition: u32) {
