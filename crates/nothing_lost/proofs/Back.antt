@@ -18,7 +18,7 @@ use Rattle.state.specs.declared.State.{State}
 use Rattle.wire.specs.declared.Read.{Read}
 use Rattle.wire.specs.declared.Read.the-variants.{NoState, Is}
 use Rattle.wire.specs.States.{flag, stateWords, stageAt, phaseAt, fourAt, stateAt, samePhase, isState, readState}
-use Rattle.demands.specs.Back.{eight, StatesInWords}
+use Rattle.nothing_lost.specs.Back.{eight, StatesInWords}
 
 stage-back : (stage : Stage) → stageAt (stageNumber stage) ≡ stage
 stage-back Running = refl

@@ -18,10 +18,10 @@ use Rattle.history.proofs.Answers.{refused-changes-nothing}
 use Rattle.wire.specs.declared.Read.{Read}
 use Rattle.wire.specs.declared.Read.the-variants.{NoState}
 use Rattle.wire.specs.States.{stateWords, readState}
-use Rattle.demands.proofs.Back.{states-in-words}
+use Rattle.nothing_lost.proofs.Back.{states-in-words}
 use Rattle.demands.proofs.Refusals.{told, accepted}
 use Rattle.in_words.specs.Events.{strange, onState, leftWords}
-use Rattle.demands.specs.InWords.{Strange, NothingLost}
+use Rattle.nothing_lost.specs.InWords.{Strange, NothingLost}
 
 left-by : (p : Plan) (s : State) (e : Event) (v : Verdict) → answerOf p s e .verdict ≡ v
     → leftWords (answerOf p s e .verdict) (answerOf p s e .state) (stateWords s) ≡ stateWords (answerOf p s e .state)
