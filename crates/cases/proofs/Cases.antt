@@ -20,7 +20,7 @@ use Rattle.machine.specs.Guard.{placed_at, fits_at, state_verdict, guard_of}
 use Rattle.state.specs.Start.{if_accepted, cold_move, cold_of}
 use Rattle.machine.specs.Step.{tick_taken, tick_at, tick_in, tick_move, zero_at, reply_at, status_in, status_move}
 use Rattle.machine.specs.Machine.{tick_of, status_verdict, status_of}
-use Rattle.log.specs.Log.{too_short, logged, calls_logged}
+use Rattle.run_log.specs.Log.{too_short, logged, calls_logged}
 use Rattle.machine.specs.Run.{tick_turn, status_turn, turn, go_on, run_verdict, run_of, log_of}
 use Rattle.words.specs.declared.Pair.{Pair}
 use Rattle.words.specs.Slots.{write, Slot, at_slot}

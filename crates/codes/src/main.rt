@@ -1,4 +1,6 @@
 // Every host code has the value that the original's src/error.rs gives it: each line is proved, and run.
+#![tactic(auto)]
+
 use refusal::code;
 
 fn main() {

@@ -1,5 +1,7 @@
 // Document 01's cases on how long the lists of a plan may be, one to a line, with some neighbours: the verdict's number and place, 0 0 where
 // accepted.
+#![tactic(auto)]
+
 ghost use Rattle.std.specs.Prelude.{◌≤◌, ◌<◌};
 
 use output::{end, put_verdict, say};

@@ -30,8 +30,8 @@ use Rattle.refusal.specs.Table.{number_of, place_of}
 use Rattle.verdict.specs.Outcome.{outcome}
 use Rattle.refusal.specs.declared.Verdict.{Verdict}
 use Rattle.refusal.specs.declared.Verdict.TheVariants.{Accepted, Refused}
-use Rattle.log.specs.Log.{asks, call_log}
-use Rattle.log.proofs.LogLaws.{too_few, long_enough, one_call_more}
+use Rattle.run_log.specs.Log.{asks, call_log}
+use Rattle.run_log.proofs.LogLaws.{too_few, long_enough, one_call_more}
 use Rattle.state.specs.declared.State.{State}
 use Rattle.state.specs.declared.Answer.{Answer}
 use Rattle.state.specs.Start.{cold_move}

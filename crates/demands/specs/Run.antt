@@ -7,7 +7,7 @@ use Rattle.records.specs.Records.{AllU32}
 use Rattle.plan.specs.Plan.{Plan}
 use Rattle.plan.specs.Faults.{verdict_of}
 use Rattle.protocol.specs.Numbers.{phase_words}
-use Rattle.log.specs.Log.{call_log}
+use Rattle.run_log.specs.Log.{call_log}
 use Rattle.state.specs.State.{zeros}
 use Rattle.machine.specs.declared.RunAnswer.{RunAnswer}
 use Rattle.machine.specs.Run.{run_of, log_of}

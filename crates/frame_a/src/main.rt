@@ -1,5 +1,7 @@
 // Frame A of document 01: the check's verdict, and the window at ticks 9, 10, 49 and 50; the region words of partition 1, for a row of
 // 1024 writable bytes. Then the same frame with budget 0 in window 2.
+#![tactic(auto)]
+
 use output::{end, say, say_hex, say_verdict, say_with};
 use plan::Frame;
 use records::PartitionNo;

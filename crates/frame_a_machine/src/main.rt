@@ -1,5 +1,7 @@
 // The machine over frame A of document 01: the cold start, the ticks of window 0, the switch to window 1, a tick that is not due, and one
 // more. A line says what was sent, then where the machine is, the window and the due tick, and what it asks of the host.
+#![tactic(auto)]
+
 use output::{say, say_with};
 use plan::Frame;
 use protocol::{Call, Cause, Phase, Stage};

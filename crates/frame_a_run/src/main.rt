@@ -1,5 +1,7 @@
 // A whole run of frame A of document 01, in words: what the machine asks of the host, call by call, who runs when, and why it stopped. It is given ticks 0 to
 // 30, so that windows 0 and 1 pass, then tick 40, which is not due; every call is answered with zero.
+#![tactic(auto)]
+
 use output::{say, say_wide, say_with};
 use plan::Frame;
 use protocol::{Cause, Phase, Stage};

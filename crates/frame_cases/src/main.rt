@@ -1,5 +1,7 @@
 // Document 01's cases for the frame of the four-window port, one to a line: the frames' verdicts, then lookups in frame A. A verdict is its number
 // and place, 0 0 where accepted.
+#![tactic(auto)]
+
 use major_frame::MajorFrame;
 use output::{end, put, put_verdict, say};
 

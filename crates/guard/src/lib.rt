@@ -1,4 +1,6 @@
 // Which states are let in: those that some ticks and statuses lead to from the plan's cold start, and of them those that are not stopped.
+#![tactic(auto)]
+
 ghost use Rattle.std.specs.Prelude.{◌≡◌, ◌/◌, ◌^◌, ◌<◌, length};
 ghost use Rattle.plan.specs.Plan.{plan_of};
 ghost use Rattle.machine.specs.Guard.{fits_at, state_verdict, guarded};

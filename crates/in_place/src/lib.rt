@@ -1,6 +1,8 @@
 // The original's calling form: `tick` and the three marks on a four-window state that is lent and changed in place. Each takes the
 // state out, calls the by-value step of crate `switcher` and stores the state that it answers, so that a refused state stays as it
 // was. They are free functions: an `impl` stands in the type's own crate.
+#![tactic(auto)]
+
 ghost use Rattle.std.specs.Prelude.{◌≡◌};
 ghost use Rattle.switcher.specs.Switch.{tick_of, mark_saved_of, mark_swapped_of, mark_resumed_of};
 ghost use Rattle.in_place.specs.InPlace.{told};
@@ -9,7 +11,7 @@ use refusal::Verdict;
 use switcher::Switcher;
 
 // What a caller is told; `done` is the original's `switched` and `ok`.
-#[derive(Drop)]
+#[derive(Clone, Copy)]
 pub struct Told {
     pub done: bool,
     pub verdict: Verdict,

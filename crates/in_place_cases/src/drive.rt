@@ -5,7 +5,7 @@ ghost use Rattle.in_place_cases.specs.Drive.{course_of};
 use switcher::{Stepped, Switcher};
 
 // What each call told, with the state that it left.
-#[derive(Drop)]
+#[derive(Clone, Copy)]
 pub struct Course {
     pub ticked: Stepped,
     pub saved: Stepped,

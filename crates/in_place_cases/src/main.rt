@@ -1,6 +1,8 @@
 // The four-window state in the original's calling form: one state is lent to `tick` and to the three marks in turn, over two switches of frame A, off
 // the boundary, and where it is refused. A line has what the call told, the refusal's number and place (0 0 where accepted) and whether the step was
 // taken, and the state that it left: window, phase (0 Running to 3 Resume) and mark.
+#![tactic(auto)]
+
 use major_frame::MajorFrame;
 use output::{end, put, put_flag, put_verdict, say};
 use switcher::{Stepped, SwPhase, Switcher};

@@ -1,4 +1,6 @@
 // The machine's events on a state that crosses as eight words, whatever they are.
+#![tactic(auto)]
+
 ghost use Rattle.std.specs.Prelude.{◌≡◌};
 ghost use Rattle.plan.specs.Plan.{plan_of};
 ghost use Rattle.in_words.specs.Events.{strange, tick_in_words, status_in_words, left_words};

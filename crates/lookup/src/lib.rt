@@ -1,4 +1,6 @@
 // Which window a tick falls in (document 01, "Refusal numbers and their place", 12, and "lookups answer 0").
+#![tactic(auto)]
+
 ghost use Rattle.std.specs.Prelude.{◌≡◌};
 ghost use Rattle.timeline.specs.Windows.{window_at};
 ghost use Rattle.records.specs.Records.{offset_in, budget_in};
@@ -10,7 +12,7 @@ use records::{Window, WindowNo, nth_window, window_end};
 use refusal::{Refusal, Verdict};
 
 // Where a tick falls.
-#[derive(Drop)]
+#[derive(Clone, Copy)]
 pub struct Located {
     pub window: WindowNo,
     pub verdict: Verdict,

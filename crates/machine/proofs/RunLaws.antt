@@ -19,8 +19,8 @@ use Rattle.refusal.proofs.Tests.{chosen, passed}
 use Rattle.plan.specs.Plan.{Plan}
 use Rattle.plan.specs.Faults.{verdict_of}
 use Rattle.protocol.specs.Phase.{is_stopped}
-use Rattle.log.specs.Log.{too_short, asks, with_call}
-use Rattle.log.proofs.LogLaws.{stays, grows}
+use Rattle.run_log.specs.Log.{too_short, asks, with_call}
+use Rattle.run_log.proofs.LogLaws.{stays, grows}
 use Rattle.state.specs.declared.Answer.{Answer}
 use Rattle.state.specs.Start.{cold_move, cold_of}
 use Rattle.state.proofs.StartLaws.{cold_refused, cold_accepted}

@@ -9,7 +9,7 @@ use Rattle.verdict.specs.First.{unless_refused}
 use Rattle.plan.specs.Plan.{Plan}
 use Rattle.plan.specs.Faults.{verdict_of}
 use Rattle.protocol.specs.Phase.{is_stopped}
-use Rattle.log.specs.Log.{too_short, asks, logged, calls_logged}
+use Rattle.run_log.specs.Log.{too_short, asks, logged, calls_logged}
 use Rattle.state.specs.declared.Answer.{Answer}
 use Rattle.state.specs.State.{zeros}
 use Rattle.state.specs.Start.{cold_move}

@@ -1,11 +1,13 @@
 // What the machine is: which states it lets in, what a tick and a status do, and a run. The definitions are in specs/, the laws in proofs/. Here are only their types;
 // crates `guard`, `switch` and `run` compute them.
+#![tactic(auto)]
+
 use protocol::{Call, Stage};
 use refusal::Verdict;
 use state::State;
 
 // The verdict on a plan and a state, with what the step goes by.
-#[derive(Drop)]
+#[derive(Clone, Copy)]
 pub struct Guarded {
     // where the machine is, or was when it stopped
     pub stage: Stage,
@@ -15,7 +17,7 @@ pub struct Guarded {
 }
 
 // The end state of a run, how many ticks and statuses were used, the one that stopped it included, and how many calls were written.
-#[derive(Drop)]
+#[derive(Clone, Copy)]
 pub struct RunAnswer {
     pub state: State,
     pub ticks: usize,
@@ -25,7 +27,7 @@ pub struct RunAnswer {
 }
 
 // How far a run is: the state and the call of the last answer, how many ticks and statuses were taken, and whether one was taken last. No public function takes one.
-#[derive(Drop)]
+#[derive(Clone, Copy)]
 pub struct Course {
     pub state: State,
     pub call: Call,

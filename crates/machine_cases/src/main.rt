@@ -1,6 +1,8 @@
 // The machine's refusals, 13, 14 and 17, at their edges, one case to a line, with the steps beside them: states of frame A and one event. A line has the
 // verdict's number and place; the phase's number, the stage it is in or stopped in, the cause and its word; current and target window, the due tick and the
 // mark; then the call's two words.
+#![tactic(auto)]
+
 use output::{end, put, put_flag, put_phase, put_verdict, say};
 use plan::Frame;
 use protocol::{CallWords, Cause, Phase, Stage};

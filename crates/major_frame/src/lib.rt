@@ -1,5 +1,7 @@
 // The original's major frame of four windows under its own names, by value: its check, and the window that a tick falls in.
 // Every function takes any frame, and refuses what it cannot use.
+#![tactic(auto)]
+
 ghost use Rattle.std.specs.Prelude.{◌≡◌, ◌+◌};
 
 use refusal::Verdict;
@@ -13,7 +15,7 @@ pub const WINDOWS: u32 = 4;
 
 pub const LAST_WINDOW: u32 = 3;
 
-#[derive(Drop)]
+#[derive(Clone, Copy)]
 pub struct MajorFrame {
     pub partition_id: [u32; MAX_WINDOWS],
     pub offset: [u32; MAX_WINDOWS],
@@ -22,7 +24,7 @@ pub struct MajorFrame {
 }
 
 // Where a tick falls.
-#[derive(Drop)]
+#[derive(Clone, Copy)]
 pub struct Located {
     pub window: u32,
     pub verdict: Verdict,

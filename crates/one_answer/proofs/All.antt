@@ -42,8 +42,8 @@ use Rattle.protocol.proofs.Phase.can_be.Reads as protocol-phase-can-be
 use Rattle.protocol.proofs.Phase.kept_word.Reads as protocol-phase-kept-word
 use Rattle.protocol.proofs.Call.words.Reads as protocol-call-words
 use Rattle.protocol.proofs.Phase.words.Reads as protocol-phase-words
-use Rattle.log.proofs.too_short.Reads as log-too-short
-use Rattle.log.proofs.put_call.Reads as log-put-call
+use Rattle.run_log.proofs.too_short.Reads as log-too-short
+use Rattle.run_log.proofs.put_call.Reads as log-put-call
 use Rattle.state.proofs.State.zeros.Reads as state-state-zeros
 use Rattle.state.proofs.State.ticked.Reads as state-state-ticked
 use Rattle.state.proofs.State.resumed.Reads as state-state-resumed

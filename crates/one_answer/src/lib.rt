@@ -1,1 +1,2 @@
 // Theorems only: each public contract admits one answer only.
+#![tactic(auto)]

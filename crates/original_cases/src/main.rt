@@ -1,5 +1,7 @@
 // Replays a list of cases within the original's preconditions, and writes what the four-window port answers, a line a case: the file `stdout` has what the
 // original's own bodies answered (tests/original says how the list was made, and what its numbers mean).
+#![tactic(auto)]
+
 use major_frame::MajorFrame;
 use output::{end, put, put_flag, say, say_number};
 use refusal::Verdict;

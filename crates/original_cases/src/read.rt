@@ -2,7 +2,7 @@
 use crate::show;
 
 // What has come in of a case: whole numbers, and the digits of the next.
-#[derive(Drop)]
+#[derive(Clone, Copy)]
 struct Coming {
     case: [u32; 20],
     whole: usize,
@@ -63,7 +63,7 @@ fn with_bytes(c: Coming, bytes: &[u8]) -> Coming {
 }
 
 // How much came in, and what it left.
-#[derive(Drop)]
+#[derive(Clone, Copy)]
 struct Turn {
     read: usize,
     coming: Coming,

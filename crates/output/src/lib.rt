@@ -1,5 +1,7 @@
 // What the programs write to standard output. No function here answers anything, and none can promise what is written: that is held against each program's file
 // `stdout`.
+#![tactic(auto)]
+
 use protocol::PhaseWords;
 use refusal::Verdict;
 

@@ -1,5 +1,7 @@
 // The rows of one partition, in table order (document 01, "no partition has over 8 rows"). Whoever needs a partition's rows asks here and never
 // walks the table.
+#![tactic(auto)]
+
 ghost use Rattle.std.specs.Prelude.{◌≡◌, ◌+◌, ◌≤◌, length};
 ghost use Rattle.rows.specs.Rows.{max_rows_each, rows_of};
 ghost use Rattle.rows.specs.Tests.{one_if_own};
@@ -11,13 +13,13 @@ use records::{PartitionNo, Row, nth_row};
 use refusal::Verdict;
 
 // The first `count` are the partition's rows; the others are zeros.
-#[derive(Drop)]
+#[derive(Clone, Copy)]
 pub struct OwnRows {
     pub rows: [Row; 8],
     pub count: u32,
 }
 
-#[derive(Drop)]
+#[derive(Clone, Copy)]
 pub struct Owned {
     pub own: OwnRows,
     pub verdict: Verdict,

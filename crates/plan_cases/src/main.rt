@@ -1,5 +1,7 @@
 // Document 01's cases on plans, one to a line, with some neighbours: the verdict's number and place, 0 0 where accepted. A line on a tick
 // has the window too.
+#![tactic(auto)]
+
 use output::{end, put, put_verdict, say};
 use plan::Frame;
 

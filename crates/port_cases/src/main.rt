@@ -1,5 +1,7 @@
 // Document 01's cases for the switcher of the four-window port, one to a line: steps and switches over frame A. A verdict is its number and place,
 // 0 0 where accepted; a state is its window, phase (0 Running to 3 Resume) and mark.
+#![tactic(auto)]
+
 use major_frame::MajorFrame;
 use output::{end, put, put_flag, put_verdict, say};
 use run_switch::{Calls, SeamCall};

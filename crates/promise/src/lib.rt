@@ -1,5 +1,7 @@
 // The demands as promises. The two functions do nothing: their contracts say that the demands hold of whatever can be lent and handed in, so
 // that no premise about 32-bit numbers is left to a reader.
+#![tactic(auto)]
+
 ghost use Rattle.plan.specs.Plan.{plan_of};
 ghost use Rattle.promise.specs.Lent.{HoldsOfPlan, HoldsOfState};
 

@@ -1,5 +1,7 @@
 // What the machine and its host say to each other (document 01, "The machine"): where the machine is, why it stopped, and which call it
 // asks for. `words` has calls and phases in numbers.
+#![tactic(auto)]
+
 ghost use Rattle.std.specs.Prelude.{◌≡◌, ◌^◌, ◌<◌};
 ghost use Rattle.protocol.specs.Phase.{call_open, stage_of, can_stop, can_be, kept_word};
 
@@ -8,7 +10,7 @@ use records::PartitionNo;
 mod words;
 
 // A partition runs, or one of the three calls is open.
-#[derive(Drop)]
+#[derive(Clone, Copy)]
 pub enum Stage {
     Running,
     SaveCtx,
@@ -17,14 +19,14 @@ pub enum Stage {
 }
 
 // Why it stopped, with the tick or the status word that did it.
-#[derive(Drop)]
+#[derive(Clone, Copy)]
 pub enum Cause {
     WrongTick(u32),
     TickInSwitch(u32),
     BadStatus(u32),
 }
 
-#[derive(Drop)]
+#[derive(Clone, Copy)]
 pub enum Phase {
     At(Stage),
     // where it was, and why
@@ -32,7 +34,7 @@ pub enum Phase {
 }
 
 // At most one call an answer, with the partition that it is for.
-#[derive(Drop)]
+#[derive(Clone, Copy)]
 pub enum Call {
     None,
     SaveFor(PartitionNo),
@@ -41,7 +43,7 @@ pub enum Call {
 }
 
 // 1 save, 2 swap, 3 resume, then the partition; two zeros for no call.
-#[derive(Drop)]
+#[derive(Clone, Copy)]
 pub struct CallWords {
     pub number: u32,
     pub partition: u32,
@@ -49,7 +51,7 @@ pub struct CallWords {
 
 // `phase` is 0 to 3, or 4 stopped; `stage` the phase it is in or was stopped in, 0 to 3; `cause` 1 wrong tick, 2 tick in a switch, 3 bad
 // status, and `word` its tick or status word, two zeros where it is not stopped.
-#[derive(Drop)]
+#[derive(Clone, Copy)]
 pub struct PhaseWords {
     pub phase: u32,
     pub stage: u32,

@@ -1,12 +1,14 @@
 // The records of a plan: windows of three numbers each and rows of four, in flat lists that are lent (document 01, "A plan").
+#![tactic(auto)]
+
 ghost use Rattle.std.specs.Prelude.{◌≡◌, get_or};
 ghost use Rattle.records.specs.Records.{AllU32, nth_window, nth_row, end_of};
 
 // Two kinds of number that cannot be taken for one another.
-#[derive(Drop)]
+#[derive(Clone, Copy)]
 pub struct WindowNo(pub u32);
 
-#[derive(Drop)]
+#[derive(Clone, Copy)]
 pub struct PartitionNo(pub u32);
 
 impl PartitionNo {
@@ -14,7 +16,7 @@ impl PartitionNo {
     pub const MAX: u32 = 15;
 }
 
-#[derive(Drop)]
+#[derive(Clone, Copy)]
 pub struct Window {
     pub owner: PartitionNo,
     pub offset: u32,
@@ -26,7 +28,7 @@ impl Window {
     pub const NUMBERS: usize = 3;
 }
 
-#[derive(Drop)]
+#[derive(Clone, Copy)]
 pub struct Row {
     pub partition: PartitionNo,
     pub base: u32,

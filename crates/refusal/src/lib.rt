@@ -1,5 +1,7 @@
 // Why an input was refused: the host's error codes, and one enum of refusals with its number, its place and its host
 // code (document 01, "Refusal numbers and their place").
+#![tactic(auto)]
+
 ghost use Rattle.std.specs.Prelude.{not, ◌≡◌};
 ghost use Rattle.refusal.specs.First.{refuse_if, or_else};
 ghost use Rattle.refusal.specs.Table.{number_of, place_of, host_code_of};
@@ -8,7 +10,7 @@ pub mod code;
 
 // Document 01's refusals in the order of their numbers, 1 to 17, named for what is wrong. A case that concerns one window or
 // one row holds its number; every other place is 0.
-#[derive(Drop)]
+#[derive(Clone, Copy)]
 pub enum Refusal {
     // of a plan
     Counts,
@@ -32,7 +34,7 @@ pub enum Refusal {
 }
 
 // What a check answers.
-#[derive(Drop)]
+#[derive(Clone, Copy)]
 pub enum Verdict {
     Accepted,
     Refused(Refusal),

@@ -1,4 +1,6 @@
 // The region words of a partition: what goes into the two registers of each of the eight slots (document 01, "Region words").
+#![tactic(auto)]
+
 ghost use Rattle.std.specs.Prelude.{◌≡◌, ◌<◌};
 ghost use Rattle.plan.specs.Plan.{plan_of};
 ghost use Rattle.words.specs.Slots.{slot_count};

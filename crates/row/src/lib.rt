@@ -1,4 +1,6 @@
 // One row by itself, and two of them: 6 to 9, and whether two rows clash (document 01, "A plan", "Refusal numbers and their place").
+#![tactic(auto)]
+
 ghost use Rattle.std.specs.Prelude.{◌≡◌};
 ghost use Rattle.row.specs.Tests.{shares_address, clashes, row_fault};
 

@@ -1,4 +1,6 @@
 // The rows of a plan by themselves: how many there may be, and 6 to 11 (document 01, "Refusal numbers and their place").
+#![tactic(auto)]
+
 ghost use Rattle.std.specs.Prelude.{◌≡◌};
 ghost use Rattle.rows.specs.Tests.{wrong_row_count, rows_verdict};
 

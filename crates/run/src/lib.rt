@@ -1,15 +1,17 @@
 // A run (document 01, "The machine"): the machine over lists of ticks and statuses, its calls in a log. It goes on from any answer, the cold start's or
 // a later one's.
+#![tactic(auto)]
+
 ghost use Rattle.std.specs.Prelude.{◌≡◌};
 ghost use Rattle.plan.specs.Plan.{plan_of};
 ghost use Rattle.machine.specs.Run.{end_of_run, took, tick_turn, status_turn, turn, progress, go_on, left, ended, refused_run, run_of, log_of};
 
-use log::{put_call, too_short};
 use machine::Course;
 pub use machine::RunAnswer;
 use plan::Frame;
 use protocol::{Call, Phase};
 use refusal::{Refusal, Verdict};
+use run_log::{put_call, too_short};
 use state::{Answer, State};
 use switch::{status, tick};
 

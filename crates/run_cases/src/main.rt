@@ -1,6 +1,8 @@
 // Document 01's cases on runs, one to a line, with some neighbours: the verdict's number and place; the phase's number, the stage it is in or stopped in, the
 // cause and its word; current and target window and the due tick; ticks and statuses used, calls written; then the log's words up to two past the last record.
 // Every word of a log is 9 before the run.
+#![tactic(auto)]
+
 ghost use Rattle.std.specs.Prelude.{◌≤◌};
 
 use output::{end, put, put_phase, put_verdict, say, say_wide};

@@ -1,5 +1,7 @@
 // The original's `run_switch` over four windows: one whole switch, with the status of each call. Seam calls cannot be made from proved code, so
 // the host brings the statuses, and the calls are in the answer.
+#![tactic(auto)]
+
 ghost use Rattle.std.specs.Prelude.{cond, ◌≡◌};
 ghost use Rattle.run_switch.specs.declared.SeamCall.TheVariants.{NotMade};
 ghost use Rattle.run_switch.specs.Seam.{call_number, call_partition};
@@ -12,7 +14,7 @@ use timeline::next_window;
 
 // A call that the host makes for the switcher, with its partition, or none: the original's three seams, which proved code
 // cannot cross itself.
-#[derive(Drop)]
+#[derive(Clone, Copy)]
 pub enum SeamCall {
     NotMade,
     CtxSave(u32),
@@ -21,7 +23,7 @@ pub enum SeamCall {
 }
 
 // The calls of one switch, in order; those past the last that was made are `NotMade`.
-#[derive(Drop)]
+#[derive(Clone, Copy)]
 pub struct Calls {
     pub first: SeamCall,
     pub second: SeamCall,
@@ -29,7 +31,7 @@ pub struct Calls {
 }
 
 // What `run_switch` answers: the calls that were made, the last the one that got a nonzero status.
-#[derive(Drop)]
+#[derive(Clone, Copy)]
 pub struct Switched {
     pub state: Switcher,
     pub calls: Calls,

@@ -1,5 +1,7 @@
 // What a machine that switches between partitions holds and answers (document 01, "The machine"): `make` makes states and answers, `start`
 // the first of them. Nothing here takes a machine's event: that is crate `switch`.
+#![tactic(auto)]
+
 use protocol::{Call, Phase};
 use records::WindowNo;
 use refusal::Verdict;
@@ -7,7 +9,7 @@ use refusal::Verdict;
 mod make;
 mod start;
 
-#[derive(Drop)]
+#[derive(Clone, Copy)]
 pub struct State {
     pub current: WindowNo,
     // where the switch leads; the current window if none is under way
@@ -20,7 +22,7 @@ pub struct State {
 }
 
 // The state after the event, and the call to make; or why not, with the state as it came.
-#[derive(Drop)]
+#[derive(Clone, Copy)]
 pub struct Answer {
     pub state: State,
     pub call: Call,

@@ -1,6 +1,8 @@
 // The machine that switches between partitions (document 01, "The machine"): a state goes in by value, with one tick or one status; the
 // next state comes back, with the call that the host is to make. An entry point is the guard, then the step, which stays private since it
 // refuses nothing.
+#![tactic(auto)]
+
 ghost use Rattle.std.specs.Prelude.{◌≡◌};
 ghost use Rattle.plan.specs.Plan.{plan_of};
 ghost use Rattle.machine.specs.Machine.{tick_of, status_of};

@@ -1,5 +1,7 @@
 // The original's switcher under its own names, by value: preempt at a window's last tick, then save, swap regions, resume,
 // one way. Every function takes any state; a refused one comes back as it came. A whole switch is crate `run_switch`.
+#![tactic(auto)]
+
 ghost use Rattle.std.specs.Prelude.{◌≡◌};
 ghost use Rattle.switcher.specs.Switch.{phase_number, in_phase};
 
@@ -10,7 +12,7 @@ mod guard;
 mod steps;
 
 // Where the switch is: a partition runs, or one of the three calls is open.
-#[derive(Drop)]
+#[derive(Clone, Copy)]
 pub enum SwPhase {
     Running,
     SaveCtx,
@@ -30,7 +32,7 @@ pub fn phase_number(phase: SwPhase) -> u32
     }
 }
 
-#[derive(Drop)]
+#[derive(Clone, Copy)]
 pub struct Switcher {
     pub frame: MajorFrame,
     pub cur: u32,
@@ -39,14 +41,14 @@ pub struct Switcher {
 }
 
 // What `new` answers.
-#[derive(Drop)]
+#[derive(Clone, Copy)]
 pub struct Made {
     pub state: Switcher,
     pub verdict: Verdict,
 }
 
 // What `tick` and the marks answer; `done` is the original's `switched` and `ok`.
-#[derive(Drop)]
+#[derive(Clone, Copy)]
 pub struct Stepped {
     pub state: Switcher,
     pub done: bool,

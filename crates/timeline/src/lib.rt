@@ -1,5 +1,7 @@
 // What holds of n windows that follow one another: the definitions are in specs/, the laws in proofs/. Of functions there are two, what
 // follows a tick and a window. Their sums are made in 64 bits: 4294967295 has a next number too.
+#![tactic(auto)]
+
 ghost use Rattle.std.specs.Prelude.{◌≡◌};
 ghost use Rattle.timeline.specs.Windows.{next_window, next_tick};
 

@@ -1,4 +1,6 @@
 // What crosses to a host that knows numbers only: verdicts, answers and states in words of 32 bits, and states back from words.
+#![tactic(auto)]
+
 use state::State;
 
 mod answers;
@@ -8,7 +10,7 @@ pub use answers::{answer_words, verdict_words};
 pub use states::{read_state, state_words};
 
 // What eight words are.
-#[derive(Drop)]
+#[derive(Clone, Copy)]
 pub enum Read {
     NoState,
     Is(State),

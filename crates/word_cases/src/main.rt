@@ -1,5 +1,7 @@
 // Document 01's cases on region words, with some neighbours, beside the windows of frame A: the verdict, then the eight pairs in
 // hexadecimal.
+#![tactic(auto)]
+
 use output::{end, put_verdict, say, say_hex};
 use plan::Frame;
 use records::PartitionNo;

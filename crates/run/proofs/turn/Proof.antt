@@ -4,8 +4,8 @@ use mathlib.Core.Path.{sym, ap, ◌∙◌}
 use borrow.Author.Rules.{rules}
 use Rattle.protocol.specs.contracts.Call as call
 use Rattle.protocol.specs.Phase.{is_stopped}
-use Rattle.log.specs.Log.{asks}
-use Rattle.log.proofs.LogLaws.{asked}
+use Rattle.run_log.specs.Log.{asks}
+use Rattle.run_log.proofs.LogLaws.{asked}
 use Rattle.machine.proofs.RunLaws.{turn_stopped, turn_open, turn_quiet}
 use Rattle.run.proofs.turn.Statement.{statement}
 use Rattle.run.proofs.turn.Tie as tie

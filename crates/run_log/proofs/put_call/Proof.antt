@@ -9,10 +9,10 @@ use lib.Dec.{ltb}
 use lib.ListN.{length, set, length-set}
 use Rattle.protocol.specs.declared.Call.{Call}
 use Rattle.protocol.specs.declared.CallWords.{CallWords}
-use Rattle.log.specs.Log.{asks}
-use Rattle.log.proofs.LogLaws.{asked, no_room, stays, grows}
-use Rattle.log.proofs.put_call.Statement.{statement}
-use Rattle.log.proofs.put_call.Tie as tie
+use Rattle.run_log.specs.Log.{asks}
+use Rattle.run_log.proofs.LogLaws.{asked, no_room, stays, grows}
+use Rattle.run_log.proofs.put_call.Statement.{statement}
+use Rattle.run_log.proofs.put_call.Tie as tie
 
 enum_told : tie.Need-enum-told
 enum_told c = search rules

@@ -1,6 +1,8 @@
 // The log of a run: each call is two words, 1 save, 2 swap, 3 resume, then the partition (document 01, "The machine").
+#![tactic(auto)]
+
 ghost use Rattle.std.specs.Prelude.{◌≡◌};
-ghost use Rattle.log.specs.Log.{too_short, calls_logged, logged};
+ghost use Rattle.run_log.specs.Log.{too_short, calls_logged, logged};
 
 use protocol::Call;
 

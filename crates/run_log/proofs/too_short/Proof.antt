@@ -1,9 +1,9 @@
 -- `too_short` meets its contract: fewer than four words are too few for no tick, and else a sixth of the rest is what the ticks are held against.
 -- Assumes nothing.
 use mathlib.Core.Path.{sym}
-use Rattle.log.proofs.LogLaws.{below_four, by_sixths}
-use Rattle.log.proofs.too_short.Statement.{statement}
-use Rattle.log.proofs.too_short.Tie as tie
+use Rattle.run_log.proofs.LogLaws.{below_four, by_sixths}
+use Rattle.run_log.proofs.too_short.Statement.{statement}
+use Rattle.run_log.proofs.too_short.Tie as tie
 
 returns : tie.Need-returns
 returns c = sym (below_four _ _ c.if1.true)

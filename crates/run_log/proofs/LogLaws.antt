@@ -17,7 +17,7 @@ use Rattle.protocol.specs.contracts.Call.{the_type}
 use Rattle.protocol.specs.declared.Call.{Call}
 use Rattle.protocol.specs.declared.Call.TheVariants.{None, SaveFor, SwapFor, ResumeFor}
 use Rattle.protocol.specs.declared.CallWords.{CallWords}
-use Rattle.log.specs.Log.{too_short, asks, goes_in, with_call, logged, calls_logged, call_log}
+use Rattle.run_log.specs.Log.{too_short, asks, goes_in, with_call, logged, calls_logged, call_log}
 
 pub too_few : (words ticks : ℕ) → words < 4 + 6 * ticks → too_short words ticks ≡ true
 unfolding too_short
