@@ -91,6 +91,7 @@ pub fn place(r: Refusal) -> u32
 }
 
 // The code that the host's error interface knows it by, as document 01's table gives it for each number.
+#[tactic(auto, unfolding(crate::specs::Table::code_of))]
 pub fn host_code(r: Refusal) -> i32
     ensures { result ≡ host_code_of r }
 {
@@ -106,6 +107,7 @@ pub fn host_code(r: Refusal) -> i32
 }
 
 // An earlier refusal stands; else a test that fails is refused with `r`.
+#[tactic(auto, unfolding(crate::specs::First::or_else, crate::specs::First::refuse_if))]
 pub fn or_refuse(verdict: Verdict, passes: bool, r: Refusal) -> Verdict
     ensures { result ≡ or_else verdict (refuse_if (not passes) r) }
 {

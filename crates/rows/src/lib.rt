@@ -13,6 +13,7 @@ mod tests;
 const MAX_ROWS: usize = 128;
 
 // Whether a list of so many numbers ends inside a row or holds too many.
+#[tactic(auto, unfolding(crate::specs::Tests::wrong_row_count))]
 pub fn wrong_row_count(numbers: usize) -> bool
     ensures { result ≡ wrong_row_count numbers }
 {
@@ -23,6 +24,7 @@ pub fn wrong_row_count(numbers: usize) -> bool
 }
 
 // 1, or the first fault of the rows upward.
+#[tactic(auto, using(crate::proofs::TestLaws::row_count_right, crate::proofs::TestLaws::miscounted, crate::proofs::TestLaws::counted))]
 pub fn verdict_of(rows: &[u32]) -> Verdict
     ensures { result ≡ rows_verdict rows.now }
 {

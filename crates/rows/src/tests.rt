@@ -30,6 +30,7 @@ fn row_in(rows: &[u32], i: u32) -> Row
 }
 
 // Whether row i clashes with one before it.
+#[tactic(auto, using(verdict::proofs::First::starts, verdict::proofs::First::goes_on, verdict::proofs::First::stops, verdict::proofs::First::ends), unfolding(crate::specs::Tests::clash_test, crate::specs::Tests::clashes_before, refusal::specs::First::refuse_if))]
 fn clashes_before(rows: &[u32], i: u32, b: Row) -> Verdict
     requires i_in_bounds { i * 4 ≤ length rows.now }
     requires b_value { b ≡ nth_row rows.now i }
@@ -48,6 +49,7 @@ fn clashes_before(rows: &[u32], i: u32, b: Row) -> Verdict
 
 // 10 and 11 of row i, which is b. `earlier` rows before it are of its partition; every row before it lies from `lowest` up and below `highest`, so
 // that one past all of them is held against none.
+#[tactic(auto, using(crate::proofs::CarriedLaws::past_all, crate::proofs::CarriedLaws::row_is_ninth, crate::proofs::CarriedLaws::row_may_clash))]
 fn among_earlier(rows: &[u32], i: u32, b: Row, earlier: u32, lowest: u64, highest: u64) -> Verdict
     requires i_in_bounds { i * 4 ≤ length rows.now }
     requires b_value { b ≡ nth_row rows.now i }
@@ -83,6 +85,7 @@ fn larger(a: u64, b: u64) -> u64
 
 // The first fault among the first `count` rows. The loop carries what the rows before say of the next one: how many each partition has, their smallest
 // base and their largest end, which can be 4294967296.
+#[tactic(auto, using(verdict::proofs::First::starts, verdict::proofs::First::goes_on, verdict::proofs::First::stops, verdict::proofs::First::ends, row::proofs::TestLaws::row_accepted, crate::proofs::RowLaws::count_le, crate::proofs::CarriedLaws::none_carried, crate::proofs::CarriedLaws::one_carried, crate::proofs::CarriedLaws::row_refused, crate::proofs::CarriedLaws::row_passes))]
 pub(crate) fn rows_fault(rows: &[u32], count: u32) -> Verdict
     requires { count * 4 ≤ length rows.now }
     ensures { result ≡ first_fault (row_test rows.now) 0 count }

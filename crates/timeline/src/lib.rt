@@ -6,6 +6,7 @@ ghost use Rattle.std.specs.Prelude.{◌≡◌};
 ghost use Rattle.timeline.specs.Windows.{next_window, next_tick};
 
 // 0 after the last of the frame.
+#[tactic(auto, using(crate::proofs::Laws::next_tick_below, crate::proofs::Laws::next_tick_past))]
 pub fn next_tick(length: u32, t: u32) -> u32
     ensures { result ≡ next_tick length t }
 {
@@ -14,6 +15,7 @@ pub fn next_tick(length: u32, t: u32) -> u32
 }
 
 // 0 after the last.
+#[tactic(auto, using(crate::proofs::Laws::next_window_below, crate::proofs::Laws::next_window_past))]
 pub fn next_window(count: u32, w: u32) -> u32
     ensures { result ≡ next_window count w }
 {
