@@ -19,6 +19,7 @@ pub struct Located {
 }
 
 // The window that holds t, by a scan from the front: the first that ends after t. The last needs no look.
+#[tactic(auto, using(timeline::proofs::Laws::window_at_lem))]
 fn window_at(windows: &[u32], count: u32, t: u32) -> WindowNo
     requires { InFrame windows.now count t }
     ensures { result.0 ≡ window_at count (offset_in windows.now) (budget_in windows.now) t }
@@ -36,6 +37,7 @@ fn window_at(windows: &[u32], count: u32, t: u32) -> WindowNo
     WindowNo(i)
 }
 
+#[tactic(auto, using(accepted::proofs::AcceptedLaws::accepted_all, accepted::proofs::FollowLaws::follow, crate::proofs::LookupLaws::lookup_refused, crate::proofs::LookupLaws::lookup_past, crate::proofs::LookupLaws::lookup_found))]
 pub fn lookup(frame: Frame, windows: &[u32], rows: &[u32], t: u32) -> Located
     ensures { result ≡ lookup_of (plan_of frame windows.now rows.now) t }
 {

@@ -39,6 +39,7 @@ impl OwnRows {
     };
 
     // One row more if it is the partition's.
+    #[tactic(auto, unfolding(crate::specs::Own::with_own))]
     fn with_own(self, r: Row, partition: PartitionNo) -> OwnRows
         requires { self.count + one_if_own r partition.0 ≤ max_rows_each }
         ensures { result ≡ with_own self r partition.0 }
@@ -55,6 +56,7 @@ impl OwnRows {
 }
 
 // The partition's rows among the first `count`.
+#[tactic(auto, using(crate::proofs::OwnLaws::packed_count, crate::proofs::OwnLaws::own_step, rows::proofs::RowLaws::count_step, rows::proofs::RowLaws::count_mono), unfolding(rows::specs::Rows::rows_of, crate::specs::Own::packed, crate::specs::Own::padded))]
 fn packed_rows(rows: &[u32], count: u32, partition: PartitionNo) -> OwnRows
     requires { length (rows_of rows.now partition.0 count) ≤ max_rows_each }
     ensures { result ≡ packed (rows_of rows.now partition.0 count) }
@@ -70,6 +72,7 @@ fn packed_rows(rows: &[u32], count: u32, partition: PartitionNo) -> OwnRows
 }
 
 // The rows of a partition; a partition that has none, or that there is not, gets none.
+#[tactic(auto, using(accepted::proofs::AcceptedLaws::accepted_all, crate::proofs::OwnLaws::owned_refused, crate::proofs::OwnLaws::owned_accepted), unfolding(crate::specs::Own::packed, crate::specs::Own::padded))]
 pub fn own_rows(frame: Frame, windows: &[u32], rows: &[u32], partition: PartitionNo) -> Owned
     ensures { result ≡ own_rows_of (plan_of frame windows.now rows.now) partition.0 }
 {

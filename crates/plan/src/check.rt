@@ -11,6 +11,7 @@ use records::{PartitionNo, Window, window_end};
 use refusal::{Refusal, Verdict};
 
 // Lists of so many numbers: a torn record, or too few or too many.
+#[tactic(auto, unfolding(crate::specs::Faults::wrong_counts))]
 fn wrong_counts(window_numbers: usize, row_numbers: usize) -> bool
     ensures { result ≡ wrong_counts window_numbers row_numbers }
 {
@@ -41,6 +42,7 @@ fn window_in(windows: &[u32], i: u32) -> Window
 }
 
 // The tests of one window that should start at `start`.
+#[tactic(auto, unfolding(crate::specs::Parts::window_fault, refusal::specs::First::refuse_if, refusal::specs::First::or_else))]
 fn window_fault(i: u32, start: u64, w: Window) -> Verdict
     ensures { result ≡ window_fault i start w }
 {
@@ -59,6 +61,7 @@ fn window_fault(i: u32, start: u64, w: Window) -> Verdict
 }
 
 // The first fault among the first `count` windows.
+#[tactic(auto, using(verdict::proofs::First::starts, verdict::proofs::First::goes_on, verdict::proofs::First::stops, verdict::proofs::First::ends), unfolding(crate::specs::Parts::window_test))]
 fn windows_fault(windows: &[u32], count: u32) -> Verdict
     requires { count * 3 ≤ length windows.now }
     ensures { result ≡ first_fault (window_test windows.now) 0 count }
@@ -78,6 +81,7 @@ fn windows_fault(windows: &[u32], count: u32) -> Verdict
 }
 
 impl Frame {
+    #[tactic(auto, using(crate::proofs::CheckLaws::counts_refuse, crate::proofs::CheckLaws::windows_refuse, crate::proofs::CheckLaws::length_refuses, crate::proofs::CheckLaws::rows_decide))]
     pub fn check(self, windows: &[u32], rows: &[u32]) -> Verdict
         ensures { result ≡ verdict_of (plan_of self windows.now rows.now) }
     {

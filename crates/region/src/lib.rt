@@ -23,6 +23,7 @@ const NO_PAIR: Pair = Pair {
 };
 
 // Slot k of a partition with these rows.
+#[tactic(auto, using(words::proofs::SlotLaws::filled_slot, words::proofs::SlotLaws::free_slot))]
 fn slot_at(own: OwnRows, k: u32) -> Pair
     requires k_lt_slot_count { k < slot_count }
     requires even_sizes { EvenSizes own }
@@ -36,6 +37,7 @@ fn slot_at(own: OwnRows, k: u32) -> Pair
 }
 
 // Every slot is written, so that none keeps what an earlier owner had in it.
+#[tactic(auto, using(words::proofs::WordsLaws::filled, words::proofs::WordsLaws::none_filled, words::proofs::WordsLaws::fill, words::proofs::WordsLaws::all_filled))]
 fn slots_of(own: OwnRows) -> [Pair; 8]
     requires { EvenSizes own }
     ensures { result ≡ up_to (slot_at own) slot_count }
@@ -60,6 +62,7 @@ fn no_words(verdict: Verdict) -> Words
 }
 
 // The words of a partition: its rows in slots 0 upward, the other slots free.
+#[tactic(auto, using(accepted::proofs::AcceptedLaws::accepted_all, own::proofs::OwnLaws::owned_accepted, own::proofs::OwnLaws::owned_verdict, words::proofs::WordsLaws::words_refused, words::proofs::WordsLaws::words_unknown, words::proofs::WordsLaws::words_found, crate::proofs::PartsLaws::slots_of_packed, crate::proofs::PartsLaws::even_sizes))]
 pub fn words_of(frame: Frame, windows: &[u32], rows: &[u32], partition: PartitionNo) -> Words
     ensures { result ≡ words_of (plan_of frame windows.now rows.now) partition.0 }
 {

@@ -35,6 +35,7 @@ fn xn_of(access: u32) -> u32
 }
 
 // Slot k with row r.
+#[tactic(auto, using(words::proofs::WordsLaws::ap_at_most, words::proofs::WordsLaws::xn_at_most), unfolding(words::specs::Words::row_pair))]
 pub(crate) fn row_pair(k: u32, r: Row) -> Pair
     requires k_lt_slot_count { k < slot_count }
     requires size_nonzero { 0 < count_trailing_zeros 32 r.size }
@@ -50,6 +51,7 @@ pub(crate) fn row_pair(k: u32, r: Row) -> Pair
 }
 
 // Slot k switched off.
+#[tactic(auto, unfolding(words::specs::Words::free_pair))]
 pub(crate) fn free_pair(k: u32) -> Pair
     requires { k < slot_count }
     ensures { result ≡ free_pair k }
