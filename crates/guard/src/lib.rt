@@ -24,6 +24,7 @@ fn window_count(windows: &[u32]) -> u32
 }
 
 // 17, then 14.
+#[tactic(auto, unfolding(machine::specs::Guard::state_verdict, refusal::specs::First::or_else, refusal::specs::First::refuse_if))]
 fn let_in(state: State, stage: Stage, count: u32, windows: &[u32]) -> Verdict
     ensures { result ≡ state_verdict (fits_at count windows.now state stage) state.phase }
 {
@@ -38,6 +39,7 @@ fn let_in(state: State, stage: Stage, count: u32, windows: &[u32]) -> Verdict
 }
 
 // The plan's numbers come first.
+#[tactic(auto, using(accepted::proofs::AcceptedLaws::accepted_all, verdict::proofs::First::answers, verdict::proofs::First::answers_else, machine::proofs::GuardLaws::guard_plan, machine::proofs::GuardLaws::guard_state))]
 pub fn guard(state: State, frame: Frame, windows: &[u32], rows: &[u32]) -> Guarded
     ensures { result ≡ guarded (plan_of frame windows.now rows.now) state }
 {

@@ -11,6 +11,7 @@ use state::{Answer, State};
 use wire::Read;
 
 // What words that are no state get: the plan's own refusal comes first.
+#[tactic(auto, unfolding(refusal::specs::First::refuse_if))]
 fn strange(frame: Frame, windows: &[u32], rows: &[u32]) -> Answer
     ensures { result ≡ strange (plan_of frame windows.now rows.now) }
 {
@@ -40,6 +41,7 @@ pub fn status(words: [u32; 8], frame: Frame, windows: &[u32], rows: &[u32], stat
 }
 
 // What is left where the words were lent.
+#[tactic(auto, using(verdict::proofs::First::answers))]
 pub fn left(verdict: Verdict, state: State, words: [u32; 8]) -> [u32; 8]
     ensures { result ≡ left_words verdict state words }
 {

@@ -45,6 +45,7 @@ fn took(answer: Answer, ticks: usize, statuses: usize) -> Course
     }
 }
 
+#[tactic(auto, using(machine::proofs::RunLaws::no_tick, machine::proofs::RunLaws::takes_tick))]
 fn tick_turn(course: Course, frame: Frame, windows: &[u32], rows: &[u32], ticks: &[u32]) -> Course
     ensures { result ≡ tick_turn (plan_of frame windows.now rows.now) ticks.now course }
 {
@@ -56,6 +57,7 @@ fn tick_turn(course: Course, frame: Frame, windows: &[u32], rows: &[u32], ticks:
     took(answer, i + 1, course.statuses)
 }
 
+#[tactic(auto, using(machine::proofs::RunLaws::no_status, machine::proofs::RunLaws::takes_status))]
 fn status_turn(
     course: Course,
     frame: Frame,
@@ -74,6 +76,7 @@ fn status_turn(
 }
 
 // The next status if the last answer left a call open, else the next tick; nothing once it is stopped.
+#[tactic(auto, using(run_log::proofs::LogLaws::asked, machine::proofs::RunLaws::turn_stopped, machine::proofs::RunLaws::turn_open, machine::proofs::RunLaws::turn_quiet))]
 fn turn(
     course: Course,
     frame: Frame,
@@ -97,6 +100,7 @@ fn turn(
 }
 
 // From a course on: each call is logged before the next turn.
+#[tactic(auto, using(machine::proofs::RunLaws::one_turn_fewer, machine::proofs::RunLaws::one_turn_more, machine::proofs::RunLaws::all_done))]
 fn go_on(
     course: Course,
     frame: Frame,
@@ -141,6 +145,7 @@ fn refused_run(verdict: Verdict) -> RunAnswer
 }
 
 // From a cold start to the end of what is given; refused, the log stays as it was.
+#[tactic(auto, using(state::proofs::StartLaws::cold_accepted, machine::proofs::RunLaws::cold_verdict, machine::proofs::RunLaws::plan_first, machine::proofs::RunLaws::then_16, machine::proofs::RunLaws::let_in, machine::proofs::RunLaws::runs_refused, machine::proofs::RunLaws::runs_whole))]
 pub fn run(
     frame: Frame,
     windows: &[u32],

@@ -2,18 +2,15 @@
 -- Assumes nothing.
 use mathlib.Core.Bool.{Bool, true, false, cond, ◌&&◌, and-false}
 use mathlib.Core.List.{List, [], ◌∷◌, ◌++◌, append_assoc}
-use mathlib.Core.Logic.{◌⊎◌, ⊎_elim}
 use mathlib.Core.Path.{◌≡◌, refl, sym, ap, ◌∙◌}
 use Prim.Native.Nat.{ℕ, zero, suc, ◌+◌, ◌*◌, ◌-◌, ◌/◌, ◌≤◌, ◌<◌}
 use native.Mathlib.Numerals.{add-one}
 use native.Mathlib.Decide.{dec_lt}
 use native.Mathlib.Omega.{arith}
 use borrow.Author.Tests.{lt-ltb, le-ltb}
-use denote.Enum.Declared.{tag_of}
 use lib.Dec.{ltb}
 use lib.ListN.{length, get_or, set, drop, length-append}
 use lib.Seq.{drop-cons, set_at}
-use Rattle.protocol.specs.contracts.Call.{the_type}
 use Rattle.protocol.specs.declared.Call.{Call}
 use Rattle.protocol.specs.declared.Call.TheVariants.{None, SaveFor, SwapFor, ResumeFor}
 use Rattle.protocol.specs.declared.CallWords.{CallWords}
@@ -38,9 +35,9 @@ by_sixths words ticks enough =
       | no long ↦ le-ltb ((words - 4) / 6) ticks (omega arith) ∙ sym (le-ltb words (4 + 6 * ticks) (omega arith))
     ]
 
--- a call that is told apart from `None` by its tag
-pub asked : (call : Call) → let tag = tag_of the_type call in (tag ≡ 1) ⊎ ((tag ≡ 2) ⊎ (tag ≡ 3)) → asks call ≡ true
-asked None k = absurd (⊎_elim (λ e. omega arith) (⊎_elim (λ e. omega arith) (λ e. omega arith)) k)
+-- a call other than `None`
+pub asked : (call : Call) → (call ≡ None → ⊥) → asks call ≡ true
+asked None k = absurd (k refl)
 asked (SaveFor q) k = refl
 asked (SwapFor q) k = refl
 asked (ResumeFor q) k = refl

@@ -11,6 +11,7 @@ use refusal::Verdict;
 
 impl State {
     // Nothing is programmed yet, so window 0 does not run yet.
+    #[tactic(auto, unfolding(crate::specs::Start::cold_move))]
     fn cold_move(windows: &[u32]) -> Answer
         ensures { result ≡ cold_move windows.now }
     {
@@ -20,6 +21,7 @@ impl State {
     }
 
     // It asks for the regions of window 0's owner.
+    #[tactic(auto, using(crate::proofs::StartLaws::cold_refused, crate::proofs::StartLaws::cold_accepted))]
     pub fn cold_start(frame: Frame, windows: &[u32], rows: &[u32]) -> Answer
         ensures { result ≡ cold_of (plan_of frame windows.now rows.now) }
     {

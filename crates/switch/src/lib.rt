@@ -15,6 +15,7 @@ use state::{Answer, State};
 
 mod step;
 
+#[tactic(auto, using(verdict::proofs::First::answers, machine::proofs::GuardLaws::plan_accepted, machine::proofs::MachineLaws::tick_refused, machine::proofs::MachineLaws::tick_let_in))]
 pub fn tick(state: State, frame: Frame, windows: &[u32], rows: &[u32], t: u32) -> Answer
     ensures { result ≡ tick_of (plan_of frame windows.now rows.now) state t }
 {
@@ -28,6 +29,7 @@ pub fn tick(state: State, frame: Frame, windows: &[u32], rows: &[u32], t: u32) -
     tick_at(state, stage, frame.length, count, windows, t)
 }
 
+#[tactic(auto, using(machine::proofs::MachineLaws::status_refused, machine::proofs::MachineLaws::status_let_in))]
 pub fn status(state: State, frame: Frame, windows: &[u32], rows: &[u32], word: u32) -> Answer
     ensures { result ≡ status_of (plan_of frame windows.now rows.now) state word }
 {

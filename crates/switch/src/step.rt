@@ -26,6 +26,7 @@ fn save(state: State, count: u32, windows: &[u32]) -> Answer
 }
 
 // The due tick, Running: at the window's last tick the switch begins.
+#[tactic(auto, using(machine::proofs::StepLaws::taken_last, machine::proofs::StepLaws::taken_within))]
 fn tick_taken(state: State, length: u32, count: u32, windows: &[u32], t: u32) -> Answer
     ensures { result ≡ tick_taken (timetable length count windows.now) state t }
 {
@@ -37,6 +38,7 @@ fn tick_taken(state: State, length: u32, count: u32, windows: &[u32], t: u32) ->
     taken.quiet()
 }
 
+#[tactic(auto, using(machine::proofs::StepLaws::at_in_switch, machine::proofs::StepLaws::at_wrong, machine::proofs::StepLaws::at_due))]
 pub(crate) fn tick_at(
     state: State,
     stage: Stage,
@@ -57,6 +59,7 @@ pub(crate) fn tick_at(
 }
 
 // A zero for the call that is open: who comes gets its regions, then it may run, then it runs.
+#[tactic(auto, unfolding(machine::specs::Step::zero_at))]
 fn zero_at(state: State, stage: Stage, windows: &[u32]) -> Answer
     ensures { result ≡ zero_at windows.now state stage }
 {
@@ -77,6 +80,7 @@ fn zero_at(state: State, stage: Stage, windows: &[u32]) -> Answer
 }
 
 // A status word answers the call that is open, if one is.
+#[tactic(auto, using(machine::proofs::StepLaws::at_zero, machine::proofs::StepLaws::at_bad, machine::proofs::StepLaws::at_unasked))]
 pub(crate) fn status_at(state: State, stage: Stage, windows: &[u32], word: u32) -> Answer
     ensures { result ≡ status_at windows.now state stage word }
 {

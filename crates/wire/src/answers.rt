@@ -9,6 +9,7 @@ use state::Answer;
 const TWO_TO_32: i64 = 4294967296;
 
 // A host code is below zero: two's complement in 32 bits.
+#[tactic(auto, using(crate::proofs::CodeLaws::code_in_word))]
 fn code_word(r: Refusal) -> u32
     ensures { result ≡ twos (host_code_of r) }
 {
@@ -28,6 +29,7 @@ pub fn verdict_words(verdict: Verdict) -> [u32; 3]
     }
 }
 
+#[tactic(auto, using(crate::proofs::AnswerLaws::begins))]
 pub fn answer_words(answer: Answer) -> [u32; 5]
     ensures { result ≡ answer_words answer }
 {

@@ -53,6 +53,7 @@ fn cause_at(n: u32, word: u32) -> Cause
     }
 }
 
+#[tactic(auto, using(refusal::proofs::Tests::chosen, refusal::proofs::Tests::passed))]
 fn phase_at(w: PhaseWords) -> Phase
     ensures { result ≡ phase_at w }
 {
@@ -72,6 +73,7 @@ fn same_phase(a: PhaseWords, b: PhaseWords) -> bool
 }
 
 // A state, if the words are what it would go out as.
+#[tactic(auto, using(refusal::proofs::Tests::chosen, refusal::proofs::Tests::passed), unfolding(crate::specs::States::is_state))]
 pub fn read_state(words: [u32; 8]) -> Read
     ensures { result ≡ read_state words }
 {
