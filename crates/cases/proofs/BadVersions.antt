@@ -29,7 +29,7 @@ use Rattle.state.specs.Start.{cold_move, if_accepted, cold_of}
 use Rattle.machine.specs.Step.{tick_taken, tick_at, tick_in, tick_move, zero_at, reply_at, status_at, status_in, status_move}
 use Rattle.machine.specs.Machine.{tick_of, status_verdict, status_of}
 use Rattle.history.specs.Reached.{Event, tick, status, ticks_of, statuses_of}
-use Rattle.history.specs.History.{Entry, called, answered, machine_of, history}
+use Rattle.history.specs.History.{Entry, called, answered, machine_of, history, since}
 use Rattle.history.proofs.HistoryLaws.{start_phase}
 use Rattle.demands.specs.Machine.{CheckAccepts, phase_number, HasStopped, Fault, FirstFault, Sentences}
 use Rattle.demands.specs.Refusals.{RightVerdict, RightWindow}
@@ -107,7 +107,8 @@ late =
       after = [];
       in_order = refl;
       is_fault = inr (λ e. omega (arith, e));
-      none_before = λ b e c parts fault. (subst (Fault one_tick _) (sym (zero_at_lem b e c parts)) fault).1 refl;
+      none_before =
+          λ b e c parts fault. (subst (Fault one_tick (since (runs_on one_tick) (history (runs_on one_tick) []) b)) (sym (zero_at_lem b e c parts)) fault).1 refl;
     }
 
 -- what the two machines over that plan say, by computing it

@@ -12,6 +12,7 @@ use plan::Frame;
 use records::PartitionNo;
 use words::Words;
 
+#[tactic(auto, using(wire::proofs::AnswerLaws::begins))]
 fn located_words(located: Located) -> [u32; 4]
     ensures { result ≡ located_words located }
 {
@@ -20,6 +21,7 @@ fn located_words(located: Located) -> [u32; 4]
     [said[0], said[1], said[2], located.window.0]
 }
 
+#[tactic(auto, using(wire::proofs::AnswerLaws::begins))]
 fn region_words(words: Words) -> [u32; 19]
     ensures { result ≡ region_words words }
 {

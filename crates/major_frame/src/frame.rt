@@ -7,6 +7,7 @@ use crate::{LAST_WINDOW, Located, MAX_WINDOWS, MajorFrame, WINDOWS, window_end};
 use refusal::{Refusal, Verdict};
 
 // The tests of one window that should start at `start`.
+#[tactic(auto, unfolding(crate::specs::Frame::window_fault, refusal::specs::First::refuse_if, refusal::specs::First::or_else))]
 fn window_fault(i: u32, start: u64, offset: u32, budget: u32) -> Verdict
     ensures { result ≡ window_fault i start offset budget }
 {
@@ -46,6 +47,7 @@ impl MajorFrame {
     }
 
     // Windows upward, then the frame's length.
+    #[tactic(auto, using(crate::proofs::FrameLaws::check_goes_on, crate::proofs::FrameLaws::check_ends, crate::proofs::FrameLaws::check_at_end, crate::proofs::FrameLaws::length_accepted, crate::proofs::FrameLaws::length_refused), unfolding(crate::specs::Frame::frame_verdict, crate::specs::Frame::window_test))]
     pub fn check(self) -> Verdict
         ensures { result ≡ frame_verdict self }
     {
@@ -89,6 +91,7 @@ impl MajorFrame {
         3
     }
 
+    #[tactic(auto, using(crate::proofs::FrameLaws::lookup_refused, crate::proofs::FrameLaws::lookup_past, crate::proofs::FrameLaws::lookup_found))]
     pub fn current_window(self, t: u32) -> Located
         ensures { result ≡ current_window self t }
     {

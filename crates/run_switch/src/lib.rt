@@ -63,6 +63,7 @@ pub fn call_partition(call: SeamCall) -> u32
 }
 
 // How many calls a switch makes: none where it is refused, else up to the first that gets a nonzero status.
+#[tactic(auto, unfolding(crate::specs::RunSwitch::calls_made))]
 fn calls_made(verdict: Verdict, save: u32, swap: u32) -> u32
     ensures { result ≡ calls_made verdict save swap }
 {
@@ -83,6 +84,7 @@ fn call_if(made: bool, call: SeamCall) -> SeamCall
 
 // The first calls of a switch: the outgoing partition is saved, the incoming one's regions are programmed, then it is
 // resumed.
+#[tactic(auto, unfolding(crate::specs::RunSwitch::calls_of))]
 fn calls_of(made: u32, outgoing: u32, incoming: u32) -> Calls
     ensures { result ≡ calls_of made outgoing incoming }
 {
@@ -97,6 +99,7 @@ fn calls_of(made: u32, outgoing: u32, incoming: u32) -> Calls
 }
 
 // The state that a switch of so many calls leaves: it stays in the phase whose call got a nonzero status.
+#[tactic(auto, unfolding(crate::specs::RunSwitch::left_after))]
 fn left_after(switcher: Switcher, made: u32, resume: u32) -> Switcher
     ensures { result ≡ left_after made resume switcher }
 {
@@ -129,6 +132,7 @@ fn left_after(switcher: Switcher, made: u32, resume: u32) -> Switcher
 }
 
 // The state's refusal, else 13 outside SaveCtx.
+#[tactic(auto, unfolding(crate::specs::RunSwitch::switch_verdict))]
 fn switch_check(switcher: Switcher) -> Verdict
     ensures { result ≡ switch_verdict switcher }
 {
@@ -138,6 +142,7 @@ fn switch_check(switcher: Switcher) -> Verdict
 }
 
 // The host brings the status of each call; the answer has the calls that count, up to the first that failed.
+#[tactic(auto, unfolding(crate::specs::RunSwitch::run_switch_of))]
 pub fn run_switch(switcher: Switcher, save: u32, swap: u32, resume: u32) -> Switched
     ensures { result ≡ run_switch_of switcher save swap resume }
 {

@@ -20,6 +20,7 @@ fn mark_fits(phase: SwPhase, swapped: bool) -> bool
 
 impl Switcher {
     // 2, 3 or 5 for the frame, else 17 where `inv` is false.
+    #[tactic(auto, unfolding(crate::specs::Switch::state_verdict))]
     pub fn check(self) -> Verdict
         ensures { result ≡ state_verdict self }
     {

@@ -55,6 +55,7 @@ pub struct Stepped {
     pub verdict: Verdict,
 }
 
+#[tactic(auto, unfolding(crate::specs::Switch::in_phase))]
 pub fn in_phase(phase: SwPhase, other: SwPhase) -> bool
     ensures { result ≡ in_phase phase other }
 {

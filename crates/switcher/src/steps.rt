@@ -36,6 +36,7 @@ fn zeros() -> Switcher
 }
 
 impl Switcher {
+    #[tactic(auto, using(crate::proofs::SwitchLaws::new_refused, crate::proofs::SwitchLaws::new_started))]
     pub fn new(frame: MajorFrame) -> Made
         ensures { result ≡ new_of frame }
     {
@@ -77,6 +78,7 @@ impl Switcher {
 
     // The guard of every step: a refused state comes back, an accepted one moves on if it is in the phase `from` and
     // the step is due.
+    #[tactic(auto, unfolding(crate::specs::Switch::stepped))]
     fn step(self, from: SwPhase, due: bool, cur: u32, phase: SwPhase, swapped: bool) -> Stepped
         ensures { result ≡ stepped (state_verdict self) self (moved self cur phase swapped) (due && in_phase self.phase from) }
     {
@@ -93,6 +95,7 @@ impl Switcher {
 
     // Running at the window's last tick, the switch begins; any other tick changes nothing. What is programmed is for the
     // partition that goes, so the mark is cleared.
+    #[tactic(auto, unfolding(crate::specs::Switch::at_boundary))]
     pub fn tick(self, t: u32) -> Stepped
         ensures { result ≡ tick_of self t }
     {

@@ -1,4 +1,0 @@
-pub mod Lend
-pub mod Marking
-pub mod Ticking
-pub mod Walk
