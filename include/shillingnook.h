@@ -1,4 +1,4 @@
-/* Shillingnook's C interface (C99 and C++). Link with libhost.a, which `rt staticlib host` writes to target/staticlib (for x86-64).
+/* Shillingnook's C interface (C99 and C++). Link with libhost.a, which tools/staticlib writes to target/staticlib (for x86-64).
 
    The first part declares the library: functions over numbers of 32 bits and lent lists. No struct crosses by value, so the declarations do not depend on how a target
    passes one. The second part, the names that begin with sn_, puts structs on top of them, in inline functions; firmware will want those.

@@ -4,14 +4,8 @@
 use mathlib.Core.Path.{◌≡◌, refl, sym, ◌∙◌}
 use Prim.Native.Nat.{ℕ}
 use native.Mathlib.Omega.{arith}
-use seplogic.Ra.Ura.{Ura}
-use base.Logic.{SProp}
-use prog.Memory.{Memory}
-use prog.Routine.{Routine}
-use types.Logic.{Logic}
 use contract.Lifetimes.{Lfts}
-use contract.Monad.{Fun, fact}
-use denote.Ref.{Bor}
+use denote.MutBor.{MutBor}
 use Rattle.switcher.specs.declared.Switcher.{Switcher}
 use Rattle.switcher.specs.declared.Stepped.{Stepped}
 use Rattle.switcher.specs.Switch.{tick_of, mark_saved_of, mark_swapped_of, mark_resumed_of}
@@ -72,10 +66,10 @@ use Rattle.switcher.proofs.Switcher.mark_resumed.Reads as switcher-switcher-mark
 use Rattle.run_switch.proofs.call_number.Reads as run-switch-call-number
 use Rattle.run_switch.proofs.call_partition.Reads as run-switch-call-partition
 use Rattle.run_switch.proofs.run_switch.Reads as run-switch-run-switch
-use Rattle.in_place.specs.contracts.tick as in-place-tick
-use Rattle.in_place.specs.contracts.mark_saved as in-place-mark-saved
-use Rattle.in_place.specs.contracts.mark_swapped as in-place-mark-swapped
-use Rattle.in_place.specs.contracts.mark_resumed as in-place-mark-resumed
+use Rattle.in_place.proofs.tick.Reads as in-place-tick
+use Rattle.in_place.proofs.mark_saved.Reads as in-place-mark-saved
+use Rattle.in_place.proofs.mark_swapped.Reads as in-place-mark-swapped
+use Rattle.in_place.proofs.mark_resumed.Reads as in-place-mark-resumed
 use Rattle.promise.proofs.of_any_plan.Reads as promise-of-any-plan
 use Rattle.promise.proofs.of_any_state.Reads as promise-of-any-state
 use Rattle.output.proofs.say.Reads as output-say
@@ -270,20 +264,18 @@ run_switch_call_partition_one κs xs r r' ends ends' e e' = both e e'
 pub run_switch_run_switch_one : OneAnswer run-switch-run-switch.Post
 run_switch_run_switch_one κs xs r r' ends ends' e e' = both e e'
 
--- The functions of crate `in_place` are walked by hand, and the checker reads no `Post` off such a contract: each is first shown to be the fact that stands in
--- the place of one.
-module _ {M : Type 1} {𝓤 : Ura M} (𝓛 : Logic 𝓤) (mem : Memory → SProp 𝓤) (run : Routine → Fun 𝓤) (κs : Lfts 1) (lent last : Bor Switcher) (r : Told) where
-  pub in_place_tick_says : (t : ℕ)
-      → in-place-tick.ensures-1 𝓛 κs mem run lent t (record { entry = lent; exit = last }) (record { entry = t; exit = t }) r ≡ fact 𝓤 (InPlace (tick_of lent.now t) r last.now)
+-- The functions of crate `in_place`: each contract is first shown to be the fact that two equations make, of the answer and of the state at exit.
+module _ (κs : Lfts 1) (lent last : MutBor Switcher) (r : Told) where
+  pub in_place_tick_says : (t : ℕ) → in-place-tick.Post κs (lent, (t, tt)) r (last, (t, tt)) ≡ InPlace (tick_of lent.now t) r last.now
   in_place_tick_says t = refl
 
-  pub in_place_mark_saved_says : in-place-mark-saved.ensures-1 𝓛 κs mem run lent (record { entry = lent; exit = last }) r ≡ fact 𝓤 (InPlace (mark_saved_of lent.now) r last.now)
+  pub in_place_mark_saved_says : in-place-mark-saved.Post κs (lent, tt) r (last, tt) ≡ InPlace (mark_saved_of lent.now) r last.now
   in_place_mark_saved_says = refl
 
-  pub in_place_mark_swapped_says : in-place-mark-swapped.ensures-1 𝓛 κs mem run lent (record { entry = lent; exit = last }) r ≡ fact 𝓤 (InPlace (mark_swapped_of lent.now) r last.now)
+  pub in_place_mark_swapped_says : in-place-mark-swapped.Post κs (lent, tt) r (last, tt) ≡ InPlace (mark_swapped_of lent.now) r last.now
   in_place_mark_swapped_says = refl
 
-  pub in_place_mark_resumed_says : in-place-mark-resumed.ensures-1 𝓛 κs mem run lent (record { entry = lent; exit = last }) r ≡ fact 𝓤 (InPlace (mark_resumed_of lent.now) r last.now)
+  pub in_place_mark_resumed_says : in-place-mark-resumed.Post κs (lent, tt) r (last, tt) ≡ InPlace (mark_resumed_of lent.now) r last.now
   in_place_mark_resumed_says = refl
 
 -- and that fact, whatever the by-value step is, has one answer and one state at exit
@@ -295,6 +287,30 @@ in_place_one step κs xs r r' self self' e e' = both e.0 e'.0
 
 pub in_place_state : {A : Type 0} (step : A → Stepped) → OneReading (in_place_of step) (λ κs r self. self)
 in_place_state step κs xs r r' self self' e e' = both e.1 e'.1
+
+pub in_place_tick_one : OneAnswer in-place-tick.Post
+in_place_tick_one κs xs r r' ends ends' e e' = both e.0 e'.0
+
+pub in_place_tick_state : OneReading in-place-tick.Post (λ κs r ends. ends.0.now)
+in_place_tick_state κs xs r r' ends ends' e e' = both e.1 e'.1
+
+pub in_place_mark_saved_one : OneAnswer in-place-mark-saved.Post
+in_place_mark_saved_one κs xs r r' ends ends' e e' = both e.0 e'.0
+
+pub in_place_mark_saved_state : OneReading in-place-mark-saved.Post (λ κs r ends. ends.0.now)
+in_place_mark_saved_state κs xs r r' ends ends' e e' = both e.1 e'.1
+
+pub in_place_mark_swapped_one : OneAnswer in-place-mark-swapped.Post
+in_place_mark_swapped_one κs xs r r' ends ends' e e' = both e.0 e'.0
+
+pub in_place_mark_swapped_state : OneReading in-place-mark-swapped.Post (λ κs r ends. ends.0.now)
+in_place_mark_swapped_state κs xs r r' ends ends' e e' = both e.1 e'.1
+
+pub in_place_mark_resumed_one : OneAnswer in-place-mark-resumed.Post
+in_place_mark_resumed_one κs xs r r' ends ends' e e' = both e.0 e'.0
+
+pub in_place_mark_resumed_state : OneReading in-place-mark-resumed.Post (λ κs r ends. ends.0.now)
+in_place_mark_resumed_state κs xs r r' ends ends' e e' = both e.1 e'.1
 
 pub promise_of_any_plan_one : OneAnswer promise-of-any-plan.Post
 promise_of_any_plan_one κs xs r r' ends ends' e e' = refl

@@ -1,6 +1,5 @@
 -- Windows of an accepted plan follow one another.
-use Rattle.std.proofs.Common.{◌≡◌, arith, rules, sym, ◌∙◌}
-use Rattle.refusal.specs.declared.Verdict.TheVariants.{Accepted}
+use Rattle.std.proofs.Common.{arith, rules, sym, ◌∙◌}
 use Rattle.plan.specs.Plan.{plan_of}
 use Rattle.accepted.specs.Accepted.{AcceptedIf}
 use Rattle.accepted.proofs.AcceptedLaws.{accepted_all}

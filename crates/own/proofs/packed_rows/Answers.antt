@@ -25,8 +25,8 @@ with_own-own-requires c =
 
 pub loop-j-preserved : goal.loop-j-preserved
 loop-j-preserved c = (
-    omega arith,
-    c.with_own-own.ensures
-        ∙ (λ k. with_own (c.loop-j.invariant.1 k) (c.nth_row-r.ensures k) c.args.partition.0)
-        ∙ own_step c.args.rows.now c.args.partition.0 c.loop-j.j (room c.args.rows.now c.args.partition.0 c.loop-j.j c.args.count c.requires c.loop-j-test.true),
+  omega arith,
+  c.with_own-own.ensures
+      ∙ (λ k. with_own (c.loop-j.invariant.1 k) (c.nth_row-r.ensures k) c.args.partition.0)
+      ∙ own_step c.args.rows.now c.args.partition.0 c.loop-j.j (room c.args.rows.now c.args.partition.0 c.loop-j.j c.args.count c.requires c.loop-j-test.true),
 )

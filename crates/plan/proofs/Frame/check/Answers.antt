@@ -1,7 +1,6 @@
 -- Once the counts have passed they are in range, and so the casts and the last window are.
-use Rattle.std.proofs.Common.{◌≡◌, false, length, arith, rules, sym, ◌∙◌}
+use Rattle.std.proofs.Common.{arith, rules, sym, ◌∙◌}
 use Rattle.plan.specs.Plan.{CountsInRange, plan_of}
-use Rattle.plan.specs.Faults.{wrong_counts}
 use Rattle.plan.proofs.CheckLaws.{in_range, windows_refuse}
 use Rattle.plan.proofs.Frame.check.Goals as goal
 

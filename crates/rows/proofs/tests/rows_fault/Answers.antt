@@ -1,6 +1,5 @@
 -- A row that is refused ends the fold with what it was refused for; one that passes carries what it adds.
-use Rattle.std.proofs.Common.{◌≡◌, ◌<◌, ◌≤◌, arith, rules, sym, ap, ◌∙◌}
-use Rattle.refusal.specs.declared.Verdict.TheVariants.{Accepted}
+use Rattle.std.proofs.Common.{◌≤◌, arith, sym, ap, ◌∙◌}
 use Rattle.verdict.proofs.First.{starts, goes_on, stops}
 use Rattle.records.specs.Records.{max_partition}
 use Rattle.row.specs.Tests.{row_fault}
