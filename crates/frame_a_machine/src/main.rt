@@ -7,6 +7,7 @@ use plan::Frame;
 use protocol::{Call, Cause, Phase, Stage};
 use refusal::Verdict;
 use state::{Answer, State};
+use std::io;
 use switch::{status, tick};
 
 const FRAME: Frame = Frame { length: 50 };
@@ -21,121 +22,105 @@ const IS_TICK: [u32; EVENTS] = [0, 0, 1, 1, 1, 1, 1, 1, 1, 1, 1, 1, 0, 0, 0, 1, 
 
 const WORDS: [u32; EVENTS] = [0, 0, 0, 1, 2, 3, 4, 5, 6, 7, 8, 9, 0, 0, 0, 12, 13];
 
-fn say_stage(stage: Stage) {
+fn say_stage(rt: &impl Print, stage: Stage) -> io::Result<()> {
     match stage {
-        Stage::Running => {
-            say(b"running");
-        }
-        Stage::SaveCtx => {
-            say(b"saving the context");
-        }
-        Stage::ProgramRegions => {
-            say(b"programming the regions");
-        }
-        Stage::Resume => {
-            say(b"resuming");
-        }
+        Stage::Running => say(rt, b"running"),
+        Stage::SaveCtx => say(rt, b"saving the context"),
+        Stage::ProgramRegions => say(rt, b"programming the regions"),
+        Stage::Resume => say(rt, b"resuming"),
     }
 }
 
-fn say_cause(cause: Cause) {
+fn say_cause(rt: &impl Print, cause: Cause) -> io::Result<()> {
     match cause {
-        Cause::WrongTick(t) => {
-            say_with(b": wrong tick ", t);
-        }
-        Cause::TickInSwitch(t) => {
-            say_with(b": tick in a switch, ", t);
-        }
-        Cause::BadStatus(word) => {
-            say_with(b": bad status ", word);
-        }
+        Cause::WrongTick(t) => say_with(rt, b": wrong tick ", t),
+        Cause::TickInSwitch(t) => say_with(rt, b": tick in a switch, ", t),
+        Cause::BadStatus(word) => say_with(rt, b": bad status ", word),
     }
 }
 
-fn say_phase(phase: Phase) {
+fn say_phase(rt: &impl Print, phase: Phase) -> io::Result<()> {
     match phase {
-        Phase::At(stage) => {
-            say_stage(stage);
-        }
+        Phase::At(stage) => say_stage(rt, stage),
         Phase::Stopped(stage, cause) => {
-            say(b"stopped while ");
-            say_stage(stage);
-            say_cause(cause);
+            say(rt, b"stopped while ")?;
+            say_stage(rt, stage)?;
+            say_cause(rt, cause)
         }
     }
 }
 
-fn say_call(call: Call) {
+fn say_call(rt: &impl Print, call: Call) -> io::Result<()> {
     match call {
-        Call::None => {}
-        Call::SaveFor(q) => {
-            say_with(b"\tasks to save partition ", q.0);
-        }
-        Call::SwapFor(q) => {
-            say_with(b"\tasks to swap in partition ", q.0);
-        }
-        Call::ResumeFor(q) => {
-            say_with(b"\tasks to resume partition ", q.0);
-        }
+        Call::None => Ok(()),
+        Call::SaveFor(q) => say_with(rt, b"\tasks to save partition ", q.0),
+        Call::SwapFor(q) => say_with(rt, b"\tasks to swap in partition ", q.0),
+        Call::ResumeFor(q) => say_with(rt, b"\tasks to resume partition ", q.0),
     }
 }
 
-fn say_refused(verdict: Verdict) {
+fn say_refused(rt: &impl Print, verdict: Verdict) -> io::Result<()> {
     if let Verdict::Refused(r) = verdict {
-        say_with(b"refused with ", refusal::number(r));
-        say_with(b" at place ", refusal::place(r));
-        say(b": ");
+        say_with(rt, b"refused with ", refusal::number(r))?;
+        say_with(rt, b" at place ", refusal::place(r))?;
+        say(rt, b": ")?;
     }
+    Ok(())
 }
 
-fn say_answer(answer: Answer) {
+fn say_answer(rt: &impl Print, answer: Answer) -> io::Result<()> {
     let verdict = answer.verdict;
     let state = answer.state;
     let phase = state.phase;
     let call = answer.call;
-    say(b"\t");
-    say_refused(verdict);
-    say_phase(phase);
-    say_with(b"\twindow ", state.current.0);
-    say_with(b"\tdue ", state.due);
-    say_call(call);
-    say(b"\n");
+    say(rt, b"\t")?;
+    say_refused(rt, verdict)?;
+    say_phase(rt, phase)?;
+    say_with(rt, b"\twindow ", state.current.0)?;
+    say_with(rt, b"\tdue ", state.due)?;
+    say_call(rt, call)?;
+    say(rt, b"\n")
 }
 
-fn sent_tick(state: State, windows: &[u32], t: u32) -> State {
-    say_with(b"tick ", t);
+fn sent_tick(rt: &impl Print, state: State, windows: &[u32], t: u32) -> io::Result<State> {
+    say_with(rt, b"tick ", t)?;
     let answer = tick(state, FRAME, windows, &[], t);
-    say_answer(answer);
-    answer.state
+    say_answer(rt, answer)?;
+    Ok(answer.state)
 }
 
-fn sent_status(state: State, windows: &[u32], word: u32) -> State {
-    say_with(b"status ", word);
+fn sent_status(rt: &impl Print, state: State, windows: &[u32], word: u32) -> io::Result<State> {
+    say_with(rt, b"status ", word)?;
     let answer = status(state, FRAME, windows, &[], word);
-    say_answer(answer);
-    answer.state
+    say_answer(rt, answer)?;
+    Ok(answer.state)
 }
 
-fn sent(state: State, windows: &[u32], is_tick: u32, word: u32) -> State {
+fn sent(
+    rt: &impl Print,
+    state: State,
+    windows: &[u32],
+    is_tick: u32,
+    word: u32,
+) -> io::Result<State> {
     if is_tick == 1 {
-        sent_tick(state, windows, word)
+        sent_tick(rt, state, windows, word)
     } else {
-        sent_status(state, windows, word)
+        sent_status(rt, state, windows, word)
     }
 }
 
-fn send_all(start: State, windows: &[u32]) {
+fn send_all(rt: &impl Print, start: State, windows: &[u32]) -> io::Result<()> {
     let mut state = start;
-    let mut i: usize = 0;
-    while i < EVENTS {
-        state = sent(state, windows, IS_TICK[i], WORDS[i]);
-        i += 1;
+    for i in 0..EVENTS {
+        state = sent(rt, state, windows, IS_TICK[i], WORDS[i])?;
     }
+    Ok(())
 }
 
-fn main() {
+fn main(rt: HostRuntime) -> io::Result<()> {
     let cold = State::cold_start(FRAME, &FRAME_A, &[]);
-    say(b"cold start");
-    say_answer(cold);
-    send_all(cold.state, &FRAME_A);
+    say(&rt, b"cold start")?;
+    say_answer(&rt, cold)?;
+    send_all(&rt, cold.state, &FRAME_A)
 }

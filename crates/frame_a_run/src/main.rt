@@ -7,6 +7,7 @@ use plan::Frame;
 use protocol::{Cause, Phase, Stage};
 use records::{WindowNo, nth_window, window_end};
 use run::{RunAnswer, run};
+use std::io;
 use timeline::next_window;
 
 const FRAME: Frame = Frame { length: 50 };
@@ -22,105 +23,93 @@ const TICKS: [u32; 32] = [
 ];
 
 // The ticks of window w, which the partition that was resumed has now.
-fn say_window(windows: &[u32], w: u32) {
+fn say_window(rt: &impl Print, windows: &[u32], w: u32) -> io::Result<()> {
     let window = nth_window(windows, WindowNo(w));
-    say_with(b": it runs in window ", w);
-    say_with(b", which starts at tick ", window.offset);
-    say_wide(b" and ends before tick ", window_end(window));
+    say_with(rt, b": it runs in window ", w)?;
+    say_with(rt, b", which starts at tick ", window.offset)?;
+    say_wide(rt, b" and ends before tick ", window_end(window))
 }
 
 // One record of the log; w is the window that is next to run, and after a resume the one after it.
-fn say_call(number: u32, partition: u32, windows: &[u32], w: u32) -> u32 {
+fn say_call(
+    rt: &impl Print,
+    number: u32,
+    partition: u32,
+    windows: &[u32],
+    w: u32,
+) -> io::Result<u32> {
     if number == 1 {
-        say_with(b"save the context of partition ", partition);
-        say(b"\n");
-        return w;
+        say_with(rt, b"save the context of partition ", partition)?;
+        say(rt, b"\n")?;
+        return Ok(w);
     }
     if number == 2 {
-        say_with(b"swap in the regions of partition ", partition);
-        say(b"\n");
-        return w;
+        say_with(rt, b"swap in the regions of partition ", partition)?;
+        say(rt, b"\n")?;
+        return Ok(w);
     }
-    say_with(b"resume partition ", partition);
-    say_window(windows, w);
-    say(b"\n");
-    next_window(COUNT, w)
+    say_with(rt, b"resume partition ", partition)?;
+    say_window(rt, windows, w)?;
+    say(rt, b"\n")?;
+    Ok(next_window(COUNT, w))
 }
 
-fn say_log(log: &[u32], calls: usize, windows: &[u32]) {
+fn say_log(rt: &impl Print, log: &[u32], calls: usize, windows: &[u32]) -> io::Result<()> {
     let mut w: u32 = 0;
-    let mut k: usize = 0;
-    while k < log.len() / 2 {
-        if calls <= k {
-            return;
-        }
-        w = say_call(log[k * 2], log[k * 2 + 1], windows, w);
-        k += 1;
+    for k in 0..calls.min(log.len() / 2) {
+        w = say_call(rt, log[k * 2], log[k * 2 + 1], windows, w)?;
     }
+    Ok(())
 }
 
-fn say_stage(stage: Stage) {
+fn say_stage(rt: &impl Print, stage: Stage) -> io::Result<()> {
     match stage {
-        Stage::Running => {
-            say(b"while a partition ran");
-        }
-        Stage::SaveCtx => {
-            say(b"while the save was open");
-        }
-        Stage::ProgramRegions => {
-            say(b"while the swap was open");
-        }
-        Stage::Resume => {
-            say(b"while the resume was open");
-        }
+        Stage::Running => say(rt, b"while a partition ran"),
+        Stage::SaveCtx => say(rt, b"while the save was open"),
+        Stage::ProgramRegions => say(rt, b"while the swap was open"),
+        Stage::Resume => say(rt, b"while the resume was open"),
     }
 }
 
-fn say_cause(cause: Cause) {
+fn say_cause(rt: &impl Print, cause: Cause) -> io::Result<()> {
     match cause {
-        Cause::WrongTick(t) => {
-            say_with(b", by tick ", t);
-        }
-        Cause::TickInSwitch(t) => {
-            say_with(b", by a tick in a switch, ", t);
-        }
-        Cause::BadStatus(word) => {
-            say_with(b", by the status ", word);
-        }
+        Cause::WrongTick(t) => say_with(rt, b", by tick ", t),
+        Cause::TickInSwitch(t) => say_with(rt, b", by a tick in a switch, ", t),
+        Cause::BadStatus(word) => say_with(rt, b", by the status ", word),
     }
 }
 
-fn say_phase(phase: Phase) {
+fn say_phase(rt: &impl Print, phase: Phase) -> io::Result<()> {
     match phase {
         Phase::At(stage) => {
-            say(b"went on ");
-            say_stage(stage);
+            say(rt, b"went on ")?;
+            say_stage(rt, stage)
         }
         Phase::Stopped(stage, cause) => {
-            say(b"stopped ");
-            say_stage(stage);
-            say_cause(cause);
+            say(rt, b"stopped ")?;
+            say_stage(rt, stage)?;
+            say_cause(rt, cause)
         }
     }
 }
 
-fn say_end(end: RunAnswer) {
+fn say_end(rt: &impl Print, end: RunAnswer) -> io::Result<()> {
     let state = end.state;
     let phase = state.phase;
-    say_phase(phase);
-    say_with(b"; tick ", state.due);
-    say_wide(b" was due. It had used ", end.ticks as u64);
-    say_wide(b" ticks and ", end.statuses as u64);
-    say_wide(b" statuses, and written ", end.calls as u64);
-    say(b" calls.\n");
+    say_phase(rt, phase)?;
+    say_with(rt, b"; tick ", state.due)?;
+    say_wide(rt, b" was due. It had used ", end.ticks as u64)?;
+    say_wide(rt, b" ticks and ", end.statuses as u64)?;
+    say_wide(rt, b" statuses, and written ", end.calls as u64)?;
+    say(rt, b" calls.\n")
 }
 
-fn main() {
+fn main(rt: HostRuntime) -> io::Result<()> {
     let windows = FRAME_A;
     let ticks = TICKS;
     let statuses = [0u32; 16];
     let mut log = [0u32; 196];
     let end = run(FRAME, &windows, &[], &ticks, &statuses, &mut log);
-    say_log(&log, end.calls, &windows);
-    say_end(end);
+    say_log(&rt, &log, end.calls, &windows)?;
+    say_end(&rt, end)
 }

@@ -4,6 +4,7 @@
 
 use major_frame::MajorFrame;
 use output::{end, put, put_verdict, say};
+use std::io;
 
 // Owners 0, 1, 0, 2, as in frame A.
 fn frame(
@@ -29,45 +30,47 @@ fn frame_a() -> MajorFrame {
     frame(0, 10, 30, 35, 10, 20, 5, 15, 50)
 }
 
-fn show_frame(name: &[u8], f: MajorFrame) {
-    say(name);
-    put_verdict(f.check());
-    end();
+fn show_frame(rt: &impl Print, name: &[u8], f: MajorFrame) -> io::Result<()> {
+    say(rt, name)?;
+    put_verdict(rt, f.check())?;
+    end(rt)
 }
 
-fn show_frames() {
-    show_frame(b"A:", frame_a());
+fn show_frames(rt: &impl Print) -> io::Result<()> {
+    show_frame(rt, b"A:", frame_a())?;
     show_frame(
+        rt,
         b"sum 2^32:",
         frame(0, 1, 2, 4294967295, 1, 1, 4294967293, 1, 0),
-    );
+    )?;
     show_frame(
+        rt,
         b"longest:",
         frame(0, 1, 2, 4294967294, 1, 1, 4294967292, 1, 4294967295),
-    );
-    show_frame(b"2 before 3:", frame(5, 10, 30, 35, 0, 20, 5, 15, 50));
-    show_frame(b"gap:", frame(0, 10, 31, 35, 10, 20, 4, 15, 50));
-    show_frame(b"2 before 5:", frame(0, 10, 30, 35, 10, 20, 5, 0, 51));
-    show_frame(b"length:", frame(0, 10, 30, 35, 10, 20, 5, 15, 51));
+    )?;
+    show_frame(rt, b"2 before 3:", frame(5, 10, 30, 35, 0, 20, 5, 15, 50))?;
+    show_frame(rt, b"gap:", frame(0, 10, 31, 35, 10, 20, 4, 15, 50))?;
+    show_frame(rt, b"2 before 5:", frame(0, 10, 30, 35, 10, 20, 5, 0, 51))?;
+    show_frame(rt, b"length:", frame(0, 10, 30, 35, 10, 20, 5, 15, 51))
 }
 
-fn show_lookup(name: &[u8], t: u32) {
+fn show_lookup(rt: &impl Print, name: &[u8], t: u32) -> io::Result<()> {
     let r = frame_a().current_window(t);
     let verdict = r.verdict;
-    say(name);
-    put_verdict(verdict);
-    put(r.window);
-    end();
+    say(rt, name)?;
+    put_verdict(rt, verdict)?;
+    put(rt, r.window)?;
+    end(rt)
 }
 
-fn show_lookups() {
-    show_lookup(b"at 9:", 9);
-    show_lookup(b"at 10:", 10);
-    show_lookup(b"at 49:", 49);
-    show_lookup(b"at 50:", 50);
+fn show_lookups(rt: &impl Print) -> io::Result<()> {
+    show_lookup(rt, b"at 9:", 9)?;
+    show_lookup(rt, b"at 10:", 10)?;
+    show_lookup(rt, b"at 49:", 49)?;
+    show_lookup(rt, b"at 50:", 50)
 }
 
-fn main() {
-    show_frames();
-    show_lookups();
+fn main(rt: HostRuntime) -> io::Result<()> {
+    show_frames(&rt)?;
+    show_lookups(&rt)
 }

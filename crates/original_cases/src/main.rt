@@ -6,65 +6,66 @@ use major_frame::MajorFrame;
 use output::{end, put, put_flag, say, say_number};
 use refusal::Verdict;
 use run_switch::SeamCall;
+use std::io;
 use switcher::{Stepped, SwPhase, Switcher};
 
 mod read;
 
 // No case but those of `check` is refused, so this line is never to be seen.
-fn put_refusal(verdict: Verdict) {
+fn put_refusal(rt: &impl Print, verdict: Verdict) -> io::Result<()> {
     let Verdict::Refused(r) = verdict else {
-        return;
+        return Ok(());
     };
-    say(b"refused ");
-    say_number(refusal::number(r));
-    say(b" ");
+    say(rt, b"refused ")?;
+    say_number(rt, refusal::number(r))?;
+    say(rt, b" ")
 }
 
-fn put_state(s: Switcher) {
+fn put_state(rt: &impl Print, s: Switcher) -> io::Result<()> {
     let phase = s.phase;
-    say_number(s.cur);
-    put(switcher::phase_number(phase));
-    put_flag(s.swapped);
+    say_number(rt, s.cur)?;
+    put(rt, switcher::phase_number(phase))?;
+    put_flag(rt, s.swapped)
 }
 
-fn put_step(r: Stepped) {
+fn put_step(rt: &impl Print, r: Stepped) -> io::Result<()> {
     let verdict = r.verdict;
     let state = r.state;
-    put_refusal(verdict);
-    say_number(if r.done { 1 } else { 0 });
-    say(b" ");
-    put_state(state);
+    put_refusal(rt, verdict)?;
+    say_number(rt, if r.done { 1 } else { 0 })?;
+    say(rt, b" ")?;
+    put_state(rt, state)
 }
 
-fn put_call(call: SeamCall) {
-    put(run_switch::call_number(call));
-    put(run_switch::call_partition(call));
+fn put_call(rt: &impl Print, call: SeamCall) -> io::Result<()> {
+    put(rt, run_switch::call_number(call))?;
+    put(rt, run_switch::call_partition(call))
 }
 
-fn show_check(f: MajorFrame) {
+fn show_check(rt: &impl Print, f: MajorFrame) -> io::Result<()> {
     let verdict = f.check();
     match verdict {
-        Verdict::Accepted => say_number(1),
-        Verdict::Refused(_) => say_number(0),
+        Verdict::Accepted => say_number(rt, 1),
+        Verdict::Refused(_) => say_number(rt, 0),
     }
 }
 
-fn show_window(f: MajorFrame, t: u32) {
+fn show_window(rt: &impl Print, f: MajorFrame, t: u32) -> io::Result<()> {
     let located = f.current_window(t);
     let verdict = located.verdict;
-    put_refusal(verdict);
-    say_number(located.window);
+    put_refusal(rt, verdict)?;
+    say_number(rt, located.window)
 }
 
-fn show_new(f: MajorFrame) {
+fn show_new(rt: &impl Print, f: MajorFrame) -> io::Result<()> {
     let made = Switcher::new(f);
     let verdict = made.verdict;
     let state = made.state;
-    put_refusal(verdict);
-    put_state(state);
+    put_refusal(rt, verdict)?;
+    put_state(rt, state)
 }
 
-fn show_switch(s: Switcher, save: u32, swap: u32, resume: u32) {
+fn show_switch(rt: &impl Print, s: Switcher, save: u32, swap: u32, resume: u32) -> io::Result<()> {
     let r = run_switch::run_switch(s, save, swap, resume);
     let verdict = r.verdict;
     let state = r.state;
@@ -72,11 +73,11 @@ fn show_switch(s: Switcher, save: u32, swap: u32, resume: u32) {
     let first = calls.first;
     let second = calls.second;
     let third = calls.third;
-    put_refusal(verdict);
-    put_state(state);
-    put_call(first);
-    put_call(second);
-    put_call(third);
+    put_refusal(rt, verdict)?;
+    put_state(rt, state)?;
+    put_call(rt, first)?;
+    put_call(rt, second)?;
+    put_call(rt, third)
 }
 
 fn phase_of(n: u32) -> SwPhase {
@@ -108,23 +109,23 @@ fn state_of(c: [u32; 20]) -> Switcher {
     }
 }
 
-fn show(c: [u32; 20]) {
+fn show(rt: &impl Print, c: [u32; 20]) -> io::Result<()> {
     let s = state_of(c);
     let frame = s.frame;
     let x = c[17];
     match c[0] {
-        1 => show_check(frame),
-        2 => show_window(frame, x),
-        3 => show_new(frame),
-        4 => put_step(s.tick(x)),
-        5 => put_step(s.mark_saved()),
-        6 => put_step(s.mark_swapped()),
-        7 => put_step(s.mark_resumed()),
-        _ => show_switch(s, x, c[18], c[19]),
+        1 => show_check(rt, frame)?,
+        2 => show_window(rt, frame, x)?,
+        3 => show_new(rt, frame)?,
+        4 => put_step(rt, s.tick(x))?,
+        5 => put_step(rt, s.mark_saved())?,
+        6 => put_step(rt, s.mark_swapped())?,
+        7 => put_step(rt, s.mark_resumed())?,
+        _ => show_switch(rt, s, x, c[18], c[19])?,
     }
-    end();
+    end(rt)
 }
 
-fn main() {
-    read::each_case();
+fn main(rt: HostRuntime) -> io::Result<()> {
+    read::each_case(&rt)
 }

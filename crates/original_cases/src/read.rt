@@ -1,5 +1,7 @@
 // Reads cases, 20 decimal numbers to a line, and hands each on.
 use crate::show;
+use std::io;
+use std::io::Read;
 
 // What has come in of a case: whole numbers, and the digits of the next.
 #[derive(Clone, Copy)]
@@ -30,36 +32,34 @@ fn with_number(c: Coming) -> Coming {
     }
 }
 
-fn with_byte(c: Coming, byte: u8) -> Coming {
+fn with_byte(rt: &impl Print, c: Coming, byte: u8) -> io::Result<Coming> {
     if byte >= b'0' {
         let case = c.case;
-        return Coming {
+        return Ok(Coming {
             case,
             whole: c.whole,
             digits: with_digit(c.digits, byte),
-        };
+        });
     }
     let next = with_number(c);
     if byte == b'\n' {
         let case = next.case;
-        show(case);
-        return Coming {
+        show(rt, case)?;
+        return Ok(Coming {
             case,
             whole: 0,
             digits: 0,
-        };
+        });
     }
-    next
+    Ok(next)
 }
 
-fn with_bytes(c: Coming, bytes: &[u8]) -> Coming {
+fn with_bytes(rt: &impl Print, c: Coming, bytes: &[u8]) -> io::Result<Coming> {
     let mut c = c;
-    let mut i: usize = 0;
-    while i < bytes.len() {
-        c = with_byte(c, bytes[i]);
-        i += 1;
+    for &byte in bytes {
+        c = with_byte(rt, c, byte)?;
     }
-    c
+    Ok(c)
 }
 
 // How much came in, and what it left.
@@ -69,24 +69,27 @@ struct Turn {
     coming: Coming,
 }
 
-fn one_turn(c: Coming) -> Turn {
-    let mut bytes = io::buffer();
-    let read = io::read_full(0, &mut bytes);
-    let coming = with_bytes(c, &bytes[..read]);
-    Turn { read, coming }
+fn one_turn(rt: &impl Print, input: &mut impl Read, c: Coming) -> io::Result<Turn> {
+    let mut bytes = [0u8; 4096];
+    let read = input.read(&mut bytes)?;
+    let coming = with_bytes(rt, c, &bytes[..read])?;
+    Ok(Turn { read, coming })
 }
 
-// A list of up to 400 MB: some bound has to be there, since nothing says that input ends.
-pub fn each_case() {
+// Some bound has to be there, since nothing says that input ends.
+pub fn each_case(rt: &(impl Print + Input)) -> io::Result<()> {
+    let mut input = rt.reader();
     let mut coming = Coming {
         case: [0; 20],
         whole: 0,
         digits: 0,
     };
-    let mut turns: u32 = 100000;
-    while turns > 0 {
-        let t = one_turn(coming);
-        coming = t.coming;
-        turns = if t.read == 0 { 0 } else { turns - 1 };
+    for _ in 0..u64::MAX {
+        let turn = one_turn(rt, &mut input, coming)?;
+        if turn.read == 0 {
+            break;
+        }
+        coming = turn.coming;
     }
+    Ok(())
 }

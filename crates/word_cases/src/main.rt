@@ -5,6 +5,7 @@
 use output::{end, put_verdict, say, say_hex};
 use plan::Frame;
 use records::PartitionNo;
+use std::io;
 use words::Pair;
 
 const FRAME_A: [u32; 12] = [0, 0, 10, 1, 10, 20, 0, 30, 5, 2, 35, 15];
@@ -20,53 +21,59 @@ const EIGHT_AND_ONE: [u32; 36] = [
     32, 1, 2, 224, 32, 1, 1, 256, 32, 1,
 ];
 
-fn put_pair(pair: Pair) {
-    say_hex(b" ", pair.first);
-    say_hex(b":", pair.second);
+fn put_pair(rt: &impl Print, pair: Pair) -> io::Result<()> {
+    say_hex(rt, b" ", pair.first)?;
+    say_hex(rt, b":", pair.second)
 }
 
-fn put_slots(slots: [Pair; 8]) {
-    let mut k: usize = 0;
-    while k < 8 {
-        put_pair(slots[k]);
-        k += 1;
+fn put_slots(rt: &impl Print, slots: [Pair; 8]) -> io::Result<()> {
+    for pair in slots {
+        put_pair(rt, pair)?;
     }
+    Ok(())
 }
 
-fn show(name: &[u8], rows: &[u32], partition: u32) {
+fn show(rt: &impl Print, name: &[u8], rows: &[u32], partition: u32) -> io::Result<()> {
     let frame = Frame { length: 50 };
     let words = region::words_of(frame, &FRAME_A, rows, PartitionNo(partition));
     let verdict = words.verdict;
     let slots = words.slots;
-    say(name);
-    put_verdict(verdict);
-    put_slots(slots);
-    end();
+    say(rt, name)?;
+    put_verdict(rt, verdict)?;
+    put_slots(rt, slots)?;
+    end(rt)
 }
 
-fn show_four(name: &[u8], partition: u32) {
-    show(name, &FOUR_ROWS, partition);
+fn show_four(rt: &impl Print, name: &[u8], partition: u32) -> io::Result<()> {
+    show(rt, name, &FOUR_ROWS, partition)
 }
 
-fn show_nine(name: &[u8], partition: u32) {
-    show(name, &EIGHT_AND_ONE, partition);
+fn show_nine(rt: &impl Print, name: &[u8], partition: u32) -> io::Result<()> {
+    show(rt, name, &EIGHT_AND_ONE, partition)
 }
 
-fn show_row(name: &[u8], base: u32, size: u32, access: u32, partition: u32) {
-    show(name, &[0, base, size, access], partition);
+fn show_row(
+    rt: &impl Print,
+    name: &[u8],
+    base: u32,
+    size: u32,
+    access: u32,
+    partition: u32,
+) -> io::Result<()> {
+    show(rt, name, &[0, base, size, access], partition)
 }
 
-fn main() {
-    show(b"no rows:", &[], 0);
-    show_four(b"three rows of partition 0:", 0);
-    show_four(b"one row of partition 1:", 1);
-    show_four(b"none of partition 15:", 15);
-    show_four(b"partition 16:", 16);
-    show_four(b"partition 4294967295:", 4294967295);
-    show_nine(b"eight rows:", 2);
-    show_nine(b"the ninth row of another:", 1);
-    show_row(b"the last 32 bytes:", 0xFFFFFFE0, 32, 1, 0);
-    show_row(b"the upper half:", 0x80000000, 0x80000000, 2, 0);
-    show_row(b"a row refused:", 0x20000000, 16, 1, 0);
-    show_row(b"a row refused, partition 16:", 0x20000000, 16, 1, 16);
+fn main(rt: HostRuntime) -> io::Result<()> {
+    show(&rt, b"no rows:", &[], 0)?;
+    show_four(&rt, b"three rows of partition 0:", 0)?;
+    show_four(&rt, b"one row of partition 1:", 1)?;
+    show_four(&rt, b"none of partition 15:", 15)?;
+    show_four(&rt, b"partition 16:", 16)?;
+    show_four(&rt, b"partition 4294967295:", 4294967295)?;
+    show_nine(&rt, b"eight rows:", 2)?;
+    show_nine(&rt, b"the ninth row of another:", 1)?;
+    show_row(&rt, b"the last 32 bytes:", 0xFFFFFFE0, 32, 1, 0)?;
+    show_row(&rt, b"the upper half:", 0x80000000, 0x80000000, 2, 0)?;
+    show_row(&rt, b"a row refused:", 0x20000000, 16, 1, 0)?;
+    show_row(&rt, b"a row refused, partition 16:", 0x20000000, 16, 1, 16)
 }

@@ -1,5 +1,5 @@
 -- An accepted plan has a count of windows in range.
-use Rattle.std.proofs.Common.{rules, arith, sym, ◌∙◌}
+use Rattle.std.proofs.Common.{arith, sym, ◌∙◌}
 use Rattle.plan.specs.Plan.{CountsInRange, plan_of}
 use Rattle.accepted.proofs.AcceptedLaws.{accepted_all}
 use Rattle.guard.proofs.guard.Goals as goal
