@@ -2,6 +2,11 @@
 -- the source.
 -- Assumes nothing.
 use mathlib.Core.Path.{◌≡◌, refl, sym, ◌∙◌}
+use Rattle.std.specs.Prelude.{IsOk, Result, Ok, Err}
+use denote.RattleType.{RattleType}
+use denote.Param.Laws.{Laws}
+use mir.Syntax.{Dict}
+use Rattle.std.specs.declared.io.Print.{Ghosts}
 use Prim.Native.Nat.{ℕ}
 use native.Mathlib.Omega.{arith}
 use contract.Lifetimes.{Lfts}
@@ -11,7 +16,7 @@ use Rattle.switcher.specs.declared.Stepped.{Stepped}
 use Rattle.switcher.specs.Switch.{tick_of, mark_saved_of, mark_swapped_of, mark_resumed_of}
 use Rattle.in_place.specs.declared.Told.{Told}
 use Rattle.in_place.specs.InPlace.{InPlace}
-use Rattle.one_answer.specs.One.{OneAnswer, OneReading, below_two, silent_at_exit}
+use Rattle.one_answer.specs.One.{OneAnswer, OneReading, OneAnswerWhere, below_two, silent_at_exit}
 use Rattle.refusal.proofs.number.Reads as refusal-number
 use Rattle.refusal.proofs.place.Reads as refusal-place
 use Rattle.refusal.proofs.host_code.Reads as refusal-host-code
@@ -318,38 +323,46 @@ promise_of_any_plan_one κs xs r r' ends ends' e e' = refl
 pub promise_of_any_state_one : OneAnswer promise-of-any-state.Post
 promise_of_any_state_one κs xs r r' ends ends' e e' = refl
 
-pub output_say_one : OneAnswer output-say.Post
-output_say_one κs xs r r' ends ends' e e' = refl
+-- the functions that print, whatever they print to: where the words could be written there is one answer
+-- a pair of results that are both `Ok`, where `Ok` holds nothing
+written : {E : Type 0} (r r' : Result Unit E) → IsOk r → IsOk r' → r ≡ r'
+written (Ok u) (Ok u') o o' = refl
+written (Ok u) (Err e) o o' = cc
+written (Err e) r' o o' = cc
 
-pub output_say_number_one : OneAnswer output-say-number.Post
-output_say_number_one κs xs r r' ends ends' e e' = refl
+module _ (printer : RattleType) (laws : Laws printer) (row : Ghosts printer.Denot) (prints : Dict) where
+  pub output_say_one : OneAnswerWhere (output-say.Post printer laws row prints) (λ κs r. IsOk r)
+  output_say_one κs xs r r' ends ends' e e' o o' = written r r' o o'
 
-pub output_say_with_one : OneAnswer output-say-with.Post
-output_say_with_one κs xs r r' ends ends' e e' = refl
+  pub output_say_number_one : OneAnswerWhere (output-say-number.Post printer laws row prints) (λ κs r. IsOk r)
+  output_say_number_one κs xs r r' ends ends' e e' o o' = written r r' o o'
 
-pub output_say_wide_one : OneAnswer output-say-wide.Post
-output_say_wide_one κs xs r r' ends ends' e e' = refl
+  pub output_say_with_one : OneAnswerWhere (output-say-with.Post printer laws row prints) (λ κs r. IsOk r)
+  output_say_with_one κs xs r r' ends ends' e e' o o' = written r r' o o'
 
-pub output_say_hex_one : OneAnswer output-say-hex.Post
-output_say_hex_one κs xs r r' ends ends' e e' = refl
+  pub output_say_wide_one : OneAnswerWhere (output-say-wide.Post printer laws row prints) (λ κs r. IsOk r)
+  output_say_wide_one κs xs r r' ends ends' e e' o o' = written r r' o o'
 
-pub output_say_verdict_one : OneAnswer output-say-verdict.Post
-output_say_verdict_one κs xs r r' ends ends' e e' = refl
+  pub output_say_hex_one : OneAnswerWhere (output-say-hex.Post printer laws row prints) (λ κs r. IsOk r)
+  output_say_hex_one κs xs r r' ends ends' e e' o o' = written r r' o o'
 
-pub output_put_one : OneAnswer output-put.Post
-output_put_one κs xs r r' ends ends' e e' = refl
+  pub output_say_verdict_one : OneAnswerWhere (output-say-verdict.Post printer laws row prints) (λ κs r. IsOk r)
+  output_say_verdict_one κs xs r r' ends ends' e e' o o' = written r r' o o'
 
-pub output_put_flag_one : OneAnswer output-put-flag.Post
-output_put_flag_one κs xs r r' ends ends' e e' = refl
+  pub output_put_one : OneAnswerWhere (output-put.Post printer laws row prints) (λ κs r. IsOk r)
+  output_put_one κs xs r r' ends ends' e e' o o' = written r r' o o'
 
-pub output_put_verdict_one : OneAnswer output-put-verdict.Post
-output_put_verdict_one κs xs r r' ends ends' e e' = refl
+  pub output_put_flag_one : OneAnswerWhere (output-put-flag.Post printer laws row prints) (λ κs r. IsOk r)
+  output_put_flag_one κs xs r r' ends ends' e e' o o' = written r r' o o'
 
-pub output_put_phase_one : OneAnswer output-put-phase.Post
-output_put_phase_one κs xs r r' ends ends' e e' = refl
+  pub output_put_verdict_one : OneAnswerWhere (output-put-verdict.Post printer laws row prints) (λ κs r. IsOk r)
+  output_put_verdict_one κs xs r r' ends ends' e e' o o' = written r r' o o'
 
-pub output_end_one : OneAnswer output-end.Post
-output_end_one κs xs r r' ends ends' e e' = refl
+  pub output_put_phase_one : OneAnswerWhere (output-put-phase.Post printer laws row prints) (λ κs r. IsOk r)
+  output_put_phase_one κs xs r r' ends ends' e e' o o' = written r r' o o'
+
+  pub output_end_one : OneAnswerWhere (output-end.Post printer laws row prints) (λ κs r. IsOk r)
+  output_end_one κs xs r r' ends ends' e e' o o' = written r r' o o'
 
 pub wire_verdict_words_one : OneAnswer wire-verdict-words.Post
 wire_verdict_words_one κs xs r r' ends ends' e e' = both e e'

@@ -15,6 +15,12 @@ module _ {Lifetimes : Type 0} {Arguments Result AtExit : Lifetimes → Type 0} (
       (κs : Lifetimes) (arguments : Arguments κs) (one other : Result κs) (ends ends' : AtExit κs) → Post κs arguments one ends → Post κs arguments other ends'
       → reading κs one ends ≡ reading κs other ends'
 
+  -- where the result tells whether a write failed: the same of two results that are `Ok`
+  abbrev pub OneAnswerWhere : ((κs : Lifetimes) → Result κs → Type 0) → Type 0
+  OneAnswerWhere ok =
+      (κs : Lifetimes) (arguments : Arguments κs) (one other : Result κs) (ends ends' : AtExit κs) → Post κs arguments one ends → Post κs arguments other ends'
+      → ok κs one → ok κs other → one ≡ other
+
 -- a contract that leaves something to choose is none of them: a number below 2 can be 0 or 1
 abbrev pub below_two : (κs arguments : Unit {0}) → ℕ → (ends : Unit {0}) → Type 0
 below_two κs arguments r ends = r < 2
