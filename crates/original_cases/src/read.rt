@@ -1,4 +1,6 @@
 // Reads cases, 20 decimal numbers to a line, and hands each on.
+ghost use Rattle.std.specs.Prelude.{◌≤◌, IfOk, length};
+
 use crate::show;
 use std::io;
 use std::io::Read;
@@ -69,14 +71,29 @@ struct Turn {
     coming: Coming,
 }
 
+// As much as there is, up to all of `bytes`: a read may bring less, but a byte at least until the input ends.
+fn read_full(input: &mut impl Read, bytes: &mut [u8]) -> io::Result<usize>
+    ensures { IfOk result (λ n. n ≤ length bytes.old) }
+{
+    let mut read = 0;
+    while read < bytes.len() {
+        let more = input.read(&mut bytes[read..])?;
+        if more == 0 {
+            break;
+        }
+        read += more;
+    }
+    Ok(read)
+}
+
 fn one_turn(rt: &impl Print, input: &mut impl Read, c: Coming) -> io::Result<Turn> {
     let mut bytes = [0u8; 4096];
-    let read = input.read(&mut bytes)?;
+    let read = read_full(input, &mut bytes)?;
     let coming = with_bytes(rt, c, &bytes[..read])?;
     Ok(Turn { read, coming })
 }
 
-// Some bound has to be there, since nothing says that input ends.
+// A list of up to 400 MB: some bound has to be there, since nothing says that input ends.
 pub fn each_case(rt: &(impl Print + Input)) -> io::Result<()> {
     let mut input = rt.reader();
     let mut coming = Coming {
@@ -84,7 +101,7 @@ pub fn each_case(rt: &(impl Print + Input)) -> io::Result<()> {
         whole: 0,
         digits: 0,
     };
-    for _ in 0..u64::MAX {
+    for _ in 0..100000 {
         let turn = one_turn(rt, &mut input, coming)?;
         if turn.read == 0 {
             break;
