@@ -43,7 +43,6 @@ fn fits_stage(stage: Stage, swapped: bool, inside: bool, between: bool, start: b
     }
 }
 
-#[tactic(auto, unfolding(machine::specs::Guard::fits_at, machine::specs::Guard::placed_at))]
 pub(crate) fn fits_at(state: State, stage: Stage, count: u32, windows: &[u32]) -> bool
     ensures { result ≡ fits_at count windows.now state stage }
 {

@@ -24,7 +24,6 @@ fn window_count(windows: &[u32]) -> u32
 }
 
 // 17, then 14.
-#[tactic(auto, unfolding(machine::specs::Guard::state_verdict, refusal::specs::First::or_else, refusal::specs::First::refuse_if))]
 fn let_in(state: State, stage: Stage, count: u32, windows: &[u32]) -> Verdict
     ensures { result ≡ state_verdict (fits_at count windows.now state stage) state.phase }
 {

@@ -100,7 +100,7 @@ fn turn(
 }
 
 // From a course on: each call is logged before the next turn.
-#[tactic(auto, using(machine::proofs::RunLaws::one_turn_fewer, machine::proofs::RunLaws::one_turn_more, machine::proofs::RunLaws::all_done))]
+#[tactic(auto, using(machine::proofs::RunLaws::one_turn_fewer, machine::proofs::RunLaws::one_turn_more))]
 fn go_on(
     course: Course,
     frame: Frame,
@@ -145,7 +145,6 @@ fn refused_run(verdict: Verdict) -> RunAnswer
 }
 
 // From a cold start to the end of what is given; refused, the log stays as it was.
-#[tactic(auto, using(state::proofs::StartLaws::cold_accepted, machine::proofs::RunLaws::cold_verdict, machine::proofs::RunLaws::plan_first, machine::proofs::RunLaws::then_16, machine::proofs::RunLaws::let_in, machine::proofs::RunLaws::runs_refused, machine::proofs::RunLaws::runs_whole))]
 pub fn run(
     frame: Frame,
     windows: &[u32],

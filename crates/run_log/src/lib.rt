@@ -15,7 +15,6 @@ const EACH: usize = 6;
 const CALL: usize = 2;
 
 // Whether a log of so many words is too short for so many ticks: 4 + 6 x ticks, which no list is too long for.
-#[tactic(auto, using(crate::proofs::LogLaws::below_four, crate::proofs::LogLaws::by_sixths))]
 pub fn too_short(words: usize, ticks: usize) -> bool
     ensures { result ≡ too_short words ticks }
 {
@@ -26,7 +25,6 @@ pub fn too_short(words: usize, ticks: usize) -> bool
 }
 
 // The log with one call more, after so many; no call, or no room for one, leaves it as it is. How many calls it then has.
-#[tactic(auto, using(crate::proofs::LogLaws::asked, crate::proofs::LogLaws::no_room, crate::proofs::LogLaws::stays, crate::proofs::LogLaws::grows))]
 pub fn put_call(log: &mut [u32], calls: usize, call: Call) -> usize
     ensures { (result ≡ calls_logged log.old calls call) × (log.new ≡ logged log.old calls call) }
 {

@@ -26,7 +26,7 @@ fn save(state: State, count: u32, windows: &[u32]) -> Answer
 }
 
 // The due tick, Running: at the window's last tick the switch begins.
-#[tactic(auto, using(machine::proofs::StepLaws::taken_last, machine::proofs::StepLaws::taken_within))]
+#[tactic(auto, using(machine::proofs::StepLaws::taken_last))]
 fn tick_taken(state: State, length: u32, count: u32, windows: &[u32], t: u32) -> Answer
     ensures { result ≡ tick_taken (timetable length count windows.now) state t }
 {
@@ -38,7 +38,7 @@ fn tick_taken(state: State, length: u32, count: u32, windows: &[u32], t: u32) ->
     taken.quiet()
 }
 
-#[tactic(auto, using(machine::proofs::StepLaws::at_in_switch, machine::proofs::StepLaws::at_wrong, machine::proofs::StepLaws::at_due))]
+#[tactic(auto, using(machine::proofs::StepLaws::at_wrong))]
 pub(crate) fn tick_at(
     state: State,
     stage: Stage,
@@ -80,7 +80,7 @@ fn zero_at(state: State, stage: Stage, windows: &[u32]) -> Answer
 }
 
 // A status word answers the call that is open, if one is.
-#[tactic(auto, using(machine::proofs::StepLaws::at_zero, machine::proofs::StepLaws::at_bad, machine::proofs::StepLaws::at_unasked))]
+#[tactic(auto, using(machine::proofs::StepLaws::at_zero))]
 pub(crate) fn status_at(state: State, stage: Stage, windows: &[u32], word: u32) -> Answer
     ensures { result ≡ status_at windows.now state stage word }
 {

@@ -1,0 +1,5 @@
+-- The next window is what `next_window` answers.
+use Rattle.guard.proofs.fits.between_windows.Goals as goal
+
+pub returns : goal.returns
+returns c = rw c.next_window-next.ensures
