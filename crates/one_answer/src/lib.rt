@@ -1,2 +1,2 @@
-// Theorems only: each public contract admits one answer only.
+// Theorems only: each public contract admits one answer only, or of those that print one where they could write.
 #![tactic(auto)]
