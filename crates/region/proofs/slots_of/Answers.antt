@@ -8,8 +8,8 @@ use Rattle.region.proofs.slots_of.Goals as goal
 
 pub loop-k-preserved : goal.loop-k-preserved
 loop-k-preserved c = (
-    omega arith,
-    (λ j. set (c.loop-k.invariant.1 j) c.loop-k.k (c.slot_at-pair.ensures j)) ∙ fill (slot_at c.args.own) c.loop-k.k (omega arith),
+  omega arith,
+  (λ j. set (c.loop-k.invariant.1 j) c.loop-k.k (c.slot_at-pair.ensures j)) ∙ fill (slot_at c.args.own) c.loop-k.k (omega arith),
 )
 
 pub returns : goal.returns
