@@ -38,7 +38,6 @@ pub fn row_fault(i: u32, r: Row) -> Verdict
 // The distance from b's base up to a's end decides: past both sizes together one row ends before the other starts, with b first or, where the
 // difference wraps, with a first. So two rows that lie apart take one test, whichever comes first. An end can be 4294967296; an empty row shares
 // nothing.
-#[tactic(auto, using(crate::proofs::ClashLaws::lie_apart, crate::proofs::ClashLaws::unless_touching))]
 fn shares_address(a: Row, b: Row) -> bool
     ensures { result ≡ shares_address a b }
 {
@@ -53,7 +52,6 @@ fn shares_address(a: Row, b: Row) -> bool
 }
 
 // Whether two rows share an address, and belong to one partition or at least one is writable.
-#[tactic(auto, unfolding(crate::specs::Tests::clashes))]
 pub fn clashes(a: Row, b: Row) -> bool
     ensures { result ≡ clashes a b }
 {

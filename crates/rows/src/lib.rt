@@ -24,7 +24,7 @@ pub fn wrong_row_count(numbers: usize) -> bool
 }
 
 // 1, or the first fault of the rows upward.
-#[tactic(auto, using(crate::proofs::TestLaws::row_count_right, crate::proofs::TestLaws::miscounted, crate::proofs::TestLaws::counted))]
+#[tactic(auto, using(crate::proofs::TestLaws::miscounted))]
 pub fn verdict_of(rows: &[u32]) -> Verdict
     ensures { result ≡ rows_verdict rows.now }
 {

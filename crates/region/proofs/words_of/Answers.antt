@@ -4,7 +4,6 @@ use Rattle.refusal.specs.declared.Verdict.TheVariants.{Accepted}
 use Rattle.plan.specs.Plan.{plan_of, own_rows}
 use Rattle.plan.specs.Faults.{verdict_of}
 use Rattle.accepted.proofs.AcceptedLaws.{accepted_all}
-use Rattle.own.specs.declared.OwnRows.{OwnRows}
 use Rattle.own.specs.declared.Owned.{Owned}
 use Rattle.own.specs.Own.{packed}
 use Rattle.own.proofs.OwnLaws.{owned_accepted, owned_verdict}

@@ -1,7 +1,8 @@
--- Once the counts have passed they are in range, and so the casts and the last window are.
-use Rattle.std.proofs.Common.{arith, rules, sym, ◌∙◌}
-use Rattle.plan.specs.Plan.{CountsInRange, plan_of}
-use Rattle.plan.proofs.CheckLaws.{in_range, windows_refuse}
+-- Once the counts have passed they are in range, and so are the casts and the last window; what each call said is a part of the verdict.
+use Rattle.std.proofs.Common.{◌≡◌, ◌-◌, arith, rules, sym, ap, ◌∙◌}
+use Rattle.records.specs.Records.{end_of}
+use Rattle.plan.specs.Plan.{CountsInRange, plan_of, window_count, window_of}
+use Rattle.plan.proofs.CheckLaws.{in_range, windows_refuse, length_refuses}
 use Rattle.plan.proofs.Frame.check.Goals as goal
 
 pub overflow_cast-count : goal.overflow_cast-count
@@ -22,3 +23,9 @@ pub window_in-requires : goal.window_in-requires
 window_in-requires c =
     let n : CountsInRange (plan_of c.args.self c.args.windows.now c.args.rows.now) = in_range _ (sym c.wrong_counts.ensures ∙ c.if-wrong_counts.false) in
     omega arith
+
+pub returns-then-end-self : goal.returns-then-end-self
+returns-then-end-self c =
+    let p = plan_of c.args.self c.args.windows.now c.args.rows.now in
+    let ends : c.window_end-end.result ≡ end_of (window_of p (window_count p - 1)) = c.window_end-end.ensures ∙ ap end_of c.window_in.ensures in
+    sym (length_refuses p (sym c.wrong_counts.ensures ∙ c.if-wrong_counts.false) (sym c.windows_fault-timed.ensures ∙ c.in-Accepted.is) (λ e. c.if-end-self.true (ends ∙ e)))
