@@ -49,7 +49,7 @@ fn clashes_before(rows: &[u32], i: u32, b: Row) -> Verdict
 
 // 10 and 11 of row i, which is b. `earlier` rows before it are of its partition; every row before it lies from `lowest` up and below `highest`, so
 // that one past all of them is held against none.
-#[tactic(auto, using(crate::proofs::CarriedLaws::past_all, crate::proofs::CarriedLaws::row_is_ninth, crate::proofs::CarriedLaws::row_may_clash))]
+#[tactic(auto, using(crate::proofs::CarriedLaws::row_is_ninth))]
 fn among_earlier(rows: &[u32], i: u32, b: Row, earlier: u32, lowest: u64, highest: u64) -> Verdict
     requires i_in_bounds { i * 4 ≤ length rows.now }
     requires b_value { b ≡ nth_row rows.now i }
