@@ -81,7 +81,7 @@ fn windows_fault(windows: &[u32], count: u32) -> Verdict
 }
 
 impl Frame {
-    #[tactic(auto, using(crate::proofs::CheckLaws::counts_refuse, crate::proofs::CheckLaws::rows_decide))]
+    #[tactic(auto, using(crate::proofs::CheckLaws::rows_decide))]
     pub fn check(self, windows: &[u32], rows: &[u32]) -> Verdict
         ensures { result ≡ verdict_of (plan_of self windows.now rows.now) }
     {

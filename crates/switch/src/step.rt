@@ -80,7 +80,6 @@ fn zero_at(state: State, stage: Stage, windows: &[u32]) -> Answer
 }
 
 // A status word answers the call that is open, if one is.
-#[tactic(auto, using(machine::proofs::StepLaws::at_zero))]
 pub(crate) fn status_at(state: State, stage: Stage, windows: &[u32], word: u32) -> Answer
     ensures { result ≡ status_at windows.now state stage word }
 {

@@ -2,8 +2,11 @@
 use Rattle.std.proofs.Common.{◌≡◌, ◌-◌, arith, rules, sym, ap, ◌∙◌}
 use Rattle.records.specs.Records.{end_of}
 use Rattle.plan.specs.Plan.{CountsInRange, plan_of, window_count, window_of}
-use Rattle.plan.proofs.CheckLaws.{in_range, windows_refuse, length_refuses}
+use Rattle.plan.proofs.CheckLaws.{counts_refuse, in_range, windows_refuse, length_refuses}
 use Rattle.plan.proofs.Frame.check.Goals as goal
+
+pub returns-then-wrong_counts : goal.returns-then-wrong_counts
+returns-then-wrong_counts c = sym (counts_refuse (plan_of c.args.self c.args.windows.now c.args.rows.now) (sym c.wrong_counts.ensures ∙ c.if-wrong_counts.true))
 
 pub overflow_cast-count : goal.overflow_cast-count
 overflow_cast-count c =
