@@ -9,7 +9,7 @@ use native.Mathlib.Decide.{dec_lt}
 use native.Mathlib.Omega.{arith}
 use lib.Count.{ones}
 use lib.ListN.{length}
-use Rattle.refusal.specs.declared.Verdict.TheVariants.{Accepted}
+use Rattle.refusal.specs.Verdict.{accepted}
 use Rattle.verdict.specs.First.{first_fault}
 use Rattle.verdict.proofs.First.{refuses_if, both_accept, each_accepts, all_accept}
 use Rattle.refusal.proofs.Tests.{equal, positive, at_most}
@@ -33,19 +33,19 @@ use Rattle.rows.proofs.TestLaws.{tests_accepted}
 
 -- 2, 3, 4
 window_accepted : (i start : ℕ) (w : Window)
-    → (window_fault i start w ≡ Accepted) ↔ ((0 < w.budget) × ((w.offset ≡ start) × (w.owner.0 ≤ max_partition)))
+    → (window_fault i start w ≡ accepted) ↔ ((0 < w.budget) × ((w.offset ≡ start) × (w.owner.0 ≤ max_partition)))
 unfolding window_fault
 window_accepted i start w = simp (both_accept, refuses_if, equal, positive, at_most) Iff.rfl
 
 module _ (p : Plan) where
-  length_accepted : (length_test p ≡ Accepted) ↔ (end_of (window_of p (window_count p - 1)) ≡ frame_length p)
+  length_accepted : (length_test p ≡ accepted) ↔ (end_of (window_of p (window_count p - 1)) ≡ frame_length p)
   length_accepted = simp (refuses_if, equal) Iff.rfl
 
   -- the verdict's four parts
-  parts_accepted : (verdict_of p ≡ Accepted)
-      ↔ ((counts_test p ≡ Accepted)
-      × ((first_fault (window_test p.windows) 0 (window_count p) ≡ Accepted)
-      × ((length_test p ≡ Accepted) × (first_fault (row_test p.rows) 0 (row_count p) ≡ Accepted))))
+  parts_accepted : (verdict_of p ≡ accepted)
+      ↔ ((counts_test p ≡ accepted)
+      × ((first_fault (window_test p.windows) 0 (window_count p) ≡ accepted)
+      × ((length_test p ≡ accepted) × (first_fault (row_test p.rows) 0 (row_count p) ≡ accepted))))
   parts_accepted = rw (in_order p) (simp both_accept Iff.rfl)
 
   -- what the tests of window i and of row i say, in document 01's order
@@ -59,16 +59,16 @@ module _ (p : Plan) where
       × ((length (rows_of p.rows (row_of p i).partition.0 i) ≡ max_rows_each → ⊥)
       × ((j : ℕ) → j < i → RowsClash (row_of p j) (row_of p i) → ⊥))
 
-  window_right : (i : ℕ) → (window_test p.windows i ≡ Accepted) ↔ WindowRight i
+  window_right : (i : ℕ) → (window_test p.windows i ≡ accepted) ↔ WindowRight i
   unfolding window_test WindowRight
   window_right i = window_accepted i (start_of p.windows i) (window_of p i)
 
-  row_right : (i : ℕ) → (row_test p.rows i ≡ Accepted) ↔ RowRight i
+  row_right : (i : ℕ) → (row_test p.rows i ≡ accepted) ↔ RowRight i
   unfolding RowRight
   row_right i = simp (tests_accepted, row_accepted, clashes_accepted) Iff.rfl
 
   -- the verdict is 'accepted' exactly if every sentence holds
-  pub accepted_all : verdict_of p ≡ Accepted → declared.AcceptedIf p
+  pub accepted_all : verdict_of p ≡ accepted → declared.AcceptedIf p
   unfolding WindowRight RowRight
   accepted_all e =
       let (counts, (windows, (last, rows))) = parts_accepted.0 e in
@@ -96,7 +96,7 @@ module _ (p : Plan) where
             ];
       }
 
-  pub all_accepted : declared.AcceptedIf p → verdict_of p ≡ Accepted
+  pub all_accepted : declared.AcceptedIf p → verdict_of p ≡ accepted
   unfolding WindowRight RowRight
   all_accepted a =
       let last : window_count p - 1 < window_count p = omega arith in

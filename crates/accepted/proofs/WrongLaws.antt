@@ -8,7 +8,7 @@ use mathlib.Mathlib.Data.Bool.Basic.{eq-false_of_not-eq-true}
 use lib.ListN.{get_or}
 use Rattle.refusal.specs.declared.Refusal.{Refusal}
 use Rattle.refusal.specs.declared.Refusal.TheVariants.{Counts, ZeroBudget, WrongStart, UnknownOwner, WrongLength, UnknownPartition, BadSize, BadBase, BadAccess, NinthRow, Clash, TickPastFrame, NoCallOpen, MachineStopped, NoWordsFor, LogTooShort, StrangeState}
-use Rattle.refusal.specs.declared.Verdict.TheVariants.{Refused}
+use Rattle.std.specs.Prelude.{Err}
 use Rattle.verdict.proofs.First.{refuses_if}
 use Rattle.refusal.proofs.Tests.{equal, at_most, neither, found, same, above}
 use Rattle.plan.specs.Plan.{Plan, frame_length, window_of, owner_of, offset_of, budget_of, row_of}
@@ -47,7 +47,7 @@ module _ (p : Plan) where
   wrong_means StrangeState = never
 
   -- a plan is refused with r exactly if r is the first that is wrong
-  pub refused_for : (r : Refusal) → (verdict_of p ≡ Refused r) ↔ FirstWrong p r
+  pub refused_for : (r : Refusal) → (verdict_of p ≡ Err r) ↔ FirstWrong p r
   refused_for r = (
     λ e.
         let f = refused_first p r e in

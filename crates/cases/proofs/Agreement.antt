@@ -6,8 +6,8 @@ use mathlib.Core.Path.{◌≡◌, refl, sym, ap, ◌∙◌}
 use Prim.Native.Nat.{ℕ, zero, suc, ◌<◌}
 use native.Mathlib.Decide.{dec_lt}
 use native.Mathlib.Omega.{arith}
-use Rattle.refusal.specs.declared.Verdict.{Verdict}
-use Rattle.refusal.specs.declared.Verdict.TheVariants.{Accepted, Refused}
+use Rattle.refusal.specs.Verdict.{Verdict, accepted}
+use Rattle.std.specs.Prelude.{Ok, Err}
 use Rattle.verdict.proofs.First.{never_both}
 use Rattle.timeline.specs.Windows.{Follow}
 use Rattle.timeline.proofs.Laws.{follow_same, window_at_same}
@@ -39,7 +39,7 @@ same f (suc (suc (suc zero))) h = record { owner = refl; offset = refl; budget =
 same f (suc (suc (suc (suc i)))) h = absurd (omega arith)
 
 module _ (f : MajorFrame) (owners : OwnersInRange f) where
-  to_port : verdict_of (as_plan f) ≡ Accepted → frame_verdict f ≡ Accepted
+  to_port : verdict_of (as_plan f) ≡ accepted → frame_verdict f ≡ accepted
   unfolding windows_of
   to_port e =
       port-laws.inv_accepted f
@@ -47,7 +47,7 @@ module _ (f : MajorFrame) (owners : OwnersInRange f) where
       (follow_same (λ i h. (same f i h).offset) (λ i h. (same f i h).budget)
       (follow (as_plan f) (accepted_all (as_plan f) e))))
 
-  to_plan : frame_verdict f ≡ Accepted → verdict_of (as_plan f) ≡ Accepted
+  to_plan : frame_verdict f ≡ accepted → verdict_of (as_plan f) ≡ accepted
   unfolding windows_of rows_of
   to_plan e =
       let w : Follow 4 (offset_of (as_plan f)) (budget_of (as_plan f)) f.frame_len = follow_same (λ i h. sym (same f i h).offset) (λ i h. sym (same f i h).budget) (port-laws.follow f (port-laws.accepted_inv f e)) in
@@ -71,7 +71,7 @@ module _ (f : MajorFrame) (owners : OwnersInRange f) where
   same_window : (t : ℕ) (v w : Verdict) → verdict_of (as_plan f) ≡ v → frame_verdict f ≡ w
       → (lookup_of (as_plan f) t).window.0 ≡ (current_window f t).window
   unfolding windows_of
-  same_window t Accepted Accepted ev ew =
+  same_window t (Ok _) (Ok _) ev ew =
       elim (dec_lt t f.frame_len) [
         | yes below ↦
             ap (λ r. r.window.0) (plan-laws.lookup_found (as_plan f) t ev below)
@@ -81,13 +81,13 @@ module _ (f : MajorFrame) (owners : OwnersInRange f) where
             ap (λ r. r.window.0) (plan-laws.lookup_past (as_plan f) t ev (omega arith))
             ∙ sym (ap (λ r. r.window) (port-laws.lookup_past f t ew (omega arith)))
       ]
-  same_window t (Refused r) (Refused s) ev ew =
+  same_window t (Err r) (Err s) ev ew =
       ap (λ r. r.window.0) (plan-laws.lookup_refused (as_plan f) t r ev)
       ∙ sym (ap (λ r. r.window) (port-laws.lookup_refused f t s ew))
-  same_window t Accepted (Refused s) ev ew = absurd (never_both (sym (to_port ev) ∙ ew))
-  same_window t (Refused r) Accepted ev ew = absurd (never_both (sym (to_plan ew) ∙ ev))
+  same_window t (Ok _) (Err s) ev ew = absurd (never_both (sym (to_port ev) ∙ ew))
+  same_window t (Err r) (Ok _) ev ew = absurd (never_both (sym (to_plan ew) ∙ ev))
 
-  same_verdict : (t : ℕ) → ((lookup_of (as_plan f) t).verdict ≡ Accepted) ↔ ((current_window f t).verdict ≡ Accepted)
+  same_verdict : (t : ℕ) → ((lookup_of (as_plan f) t).verdict ≡ accepted) ↔ ((current_window f t).verdict ≡ accepted)
   same_verdict t =
       rw (plan-laws.lookup_verdict_lem (as_plan f) t, port-laws.lookup_verdict_lem f t) (
         λ e. let (v, below) = (lookup_accepts _ _ t).0 e in (lookup_accepts _ _ t).1 (to_port v, below),

@@ -8,19 +8,20 @@ use Prim.Native.Nat.{ℕ}
 use native.Mathlib.Decide.{dec_lt}
 use native.Mathlib.Omega.{arith}
 use lib.ListN.{take, replicate}
-use Rattle.refusal.specs.declared.Verdict.{Verdict}
-use Rattle.refusal.specs.declared.Verdict.TheVariants.{Accepted, Refused}
+use Rattle.refusal.specs.Verdict.{Verdict, accepted}
+use Rattle.std.specs.Prelude.{Ok, Err}
 use Rattle.verdict.specs.Outcome.{outcome}
 use Rattle.verdict.proofs.First.{never_both}
 use Rattle.verdict.proofs.Outcome.{same_outcome}
 use Rattle.refusal.specs.First.{refuse_if, or_else}
 use Rattle.verdict.specs.First.{refused, first_fault, upward, test_at, first_of}
-use Rattle.timeline.specs.Windows.{next_window, next_tick}
+use Rattle.timeline.specs.Windows.{next_of}
 use Rattle.rows.specs.Rows.{rows_of}
 use Rattle.rows.specs.Tests.{wrong_row_count}
 use Rattle.plan.specs.Plan.{Plan, plan_of, frame_length}
 use Rattle.plan.specs.Faults.{wrong_counts, wrong, past_counts, order, verdict_of}
-use Rattle.lookup.specs.declared.Located.{Located}
+use Rattle.timeline.specs.declared.Located.{Located}
+use Rattle.records.specs.declared.WindowNo.{WindowNo}
 use Rattle.protocol.specs.declared.PhaseWords.{PhaseWords}
 use Rattle.protocol.specs.declared.Phase.{Phase}
 use Rattle.protocol.specs.Numbers.{phase_words}
@@ -113,7 +114,7 @@ late =
 
 -- what the two machines over that plan say, by computing it
 over_one_tick : CheckAccepts one_tick × (Sentences one_tick (asks_at_once one_tick) → ⊥) × (Sentences one_tick (runs_on one_tick) → ⊥)
-unfolding one_tick refuse_if or_else refused first_fault upward test_at first_of next_window next_tick rows_of wrong_row_count wrong_counts wrong past_counts order verdict_of placed_at fits_at state_verdict guard_of cold_move tick_taken tick_at tick_in tick_move zero_at reply_at status_at status_in status_move if_accepted cold_of tick_of status_verdict status_of
+unfolding one_tick refuse_if or_else refused first_fault upward test_at first_of next_of rows_of wrong_row_count wrong_counts wrong past_counts order verdict_of placed_at fits_at state_verdict guard_of cold_move tick_taken tick_at tick_in tick_move zero_at reply_at status_at status_in status_move if_accepted cold_of tick_of status_verdict status_of
 over_one_tick = (
   refl,
   λ holds. omega (arith, ap latest ((holds.right_tick (status 0 ∷ status 0 ∷ []) holds.two_zeros).last refl)),
@@ -161,22 +162,22 @@ one_right_answer =
     }
   where
     of : (p : Plan) (v w : Verdict) → RightVerdict p v → RightVerdict p w → v ≡ w
-    of p Accepted w right also = sym (same_outcome w Accepted (also.accepted.1 (right.accepted.0 refl)))
-    of p (Refused r) w right also = sym (same_outcome w (Refused r) ((also.refused r).1 ((right.refused r).0 refl)))
+    of p (Ok _) w right also = sym (same_outcome w accepted (also.accepted.1 (right.accepted.0 refl)))
+    of p (Err r) w right also = sym (same_outcome w (Err r) ((also.refused r).1 ((right.refused r).0 refl)))
 
-    both : {l m : Located} → outcome l.verdict ≡ outcome m.verdict → l.window.0 ≡ m.window.0 → l ≡ m
+    both : {l m : (Located WindowNo)} → outcome l.verdict ≡ outcome m.verdict → l.window.0 ≡ m.window.0 → l ≡ m
     both {l} {m} v w = λ k. record { window = record { 0 = w k }; verdict = same_outcome l.verdict m.verdict v k }
 
-    located_once : (p : Plan) (t : ℕ) (l m : Located) → RightWindow p t l → RightWindow p t m → l ≡ m
+    located_once : (p : Plan) (t : ℕ) (l m : Located WindowNo) → RightWindow p t l → RightWindow p t m → l ≡ m
     located_once p t l m right also = by (verdict_of p) refl
       where
         by : (v : Verdict) → verdict_of p ≡ v → l ≡ m
-        by (Refused r) e =
-            let refusal : CheckAccepts p → ⊥ = λ ok. never_both (sym (same_outcome (verdict_of p) Accepted ok) ∙ e) in
+        by (Err r) e =
+            let refusal : CheckAccepts p → ⊥ = λ ok. never_both (sym (same_outcome (verdict_of p) accepted ok) ∙ e) in
             let a = right.first_the_plan refusal in
             let b = also.first_the_plan refusal in
             both (a.0 ∙ sym b.0) (a.1 ∙ sym b.1)
-        by Accepted e =
+        by (Ok _) e =
             elim (dec_lt t (frame_length p)) [
               | yes below ↦
                   let a = right.else_found (ap outcome e) below in

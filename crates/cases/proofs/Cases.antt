@@ -7,7 +7,7 @@ use lib.Count.{ones, count_trailing_zeros}
 use lib.ListN.{get_or}
 use Rattle.refusal.specs.First.{refuse_if, or_else}
 use Rattle.verdict.specs.First.{refused, first_fault, upward, test_at, first_of}
-use Rattle.timeline.specs.Windows.{holdsb, window_at, next_window, next_tick}
+use Rattle.timeline.specs.Windows.{holdsb, window_at, next_of}
 use Rattle.timeline.specs.Lookup.{lookup_verdict}
 use Rattle.row.specs.Tests.{shares_address, clashes}
 use Rattle.rows.specs.Rows.{rows_of}
@@ -29,7 +29,7 @@ use Rattle.words.specs.Words.{no_pair, row_pair, free_pair, up_to, words_verdict
 use Rattle.cases.specs.Cases.{four, frame_a, three_rows, Table, last_byte, LastByteWritten}
 
 pub table : Table
-unfolding refuse_if or_else refused first_fault upward test_at first_of holdsb window_at lookup_verdict rows_of wrong_row_count shares_address clashes clash_test clashes_before wrong_counts wrong past_counts order verdict_of lookup_of window_fault window_test length_test frame_verdict current_window made new_of four frame_a three_rows ones count_trailing_zeros row_pair free_pair at_slot up_to words_verdict answer words_of next_window next_tick placed_at fits_at state_verdict guard_of if_accepted cold_move cold_of tick_taken tick_at tick_in tick_move zero_at reply_at status_in status_move tick_of status_verdict status_of too_short logged calls_logged tick_turn status_turn turn go_on run_verdict run_of log_of
+unfolding refuse_if or_else refused first_fault upward test_at first_of holdsb window_at lookup_verdict rows_of wrong_row_count shares_address clashes clash_test clashes_before wrong_counts wrong past_counts order verdict_of lookup_of window_fault window_test length_test frame_verdict current_window made new_of four frame_a three_rows ones count_trailing_zeros row_pair free_pair at_slot up_to words_verdict answer words_of next_of placed_at fits_at state_verdict guard_of if_accepted cold_move cold_of tick_taken tick_at tick_in tick_move zero_at reply_at status_in status_move tick_of status_verdict status_of too_short logged calls_logged tick_turn status_turn turn go_on run_verdict run_of log_of
 table =
     record {
       a_is_accepted = refl;

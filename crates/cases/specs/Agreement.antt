@@ -1,7 +1,7 @@
 -- For four windows with owners below 16, the plan's verdict (yes or no) and its window agree with the four-window port on the same
 -- numbers (document 01, "What is ported", 4).
 use Rattle.std.specs.Prelude.{List, [], ◌∷◌, ◌↔◌, ◌≡◌, ℕ, ◌<◌}
-use Rattle.refusal.specs.declared.Verdict.TheVariants.{Accepted}
+use Rattle.refusal.specs.Verdict.{accepted}
 use Rattle.major_frame.specs.declared.MajorFrame.{MajorFrame}
 use Rattle.major_frame.specs.Frame.{partition_at, offset_at, budget_at, frame_verdict, current_window}
 use Rattle.plan.specs.Plan.{Plan, plan_of}
@@ -19,8 +19,8 @@ abbrev pub as_plan : MajorFrame → Plan
 as_plan f = plan_of (record { length = f.frame_len }) (windows_of f) []
 
 pub record Agrees (f : MajorFrame) : Type 0 where
-  pub verdict : (verdict_of (as_plan f) ≡ Accepted) ↔ (frame_verdict f ≡ Accepted)
-  pub lookup_verdict_lem : (t : ℕ) → ((lookup_of (as_plan f) t).verdict ≡ Accepted) ↔ ((current_window f t).verdict ≡ Accepted)
+  pub verdict : (verdict_of (as_plan f) ≡ accepted) ↔ (frame_verdict f ≡ accepted)
+  pub lookup_verdict_lem : (t : ℕ) → ((lookup_of (as_plan f) t).verdict ≡ accepted) ↔ ((current_window f t).verdict ≡ accepted)
   pub window : (t : ℕ) → (lookup_of (as_plan f) t).window.0 ≡ (current_window f t).window
 
 abbrev pub OwnersInRange : MajorFrame → Type 0

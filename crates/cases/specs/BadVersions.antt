@@ -3,15 +3,15 @@
 -- as a definition, as if code and contract had been changed together, and the demand's own statement does not hold of it; nor of what the
 -- original did, start in Running with no regions programmed and run on after a missed tick. What demand 2 asks of a verdict and of a window
 -- has one answer only.
-use Rattle.std.specs.Prelude.{List, ◌≡◌, ℕ, ◌+◌, ◌*◌, ◌≤◌, length}
+use Rattle.std.specs.Prelude.{Option, Some, None, List, ◌≡◌, ℕ, ◌+◌, ◌*◌, ◌≤◌, length, Err}
 use Rattle.refusal.specs.declared.Refusal.TheVariants.{Counts}
-use Rattle.refusal.specs.declared.Verdict.{Verdict}
-use Rattle.refusal.specs.declared.Verdict.TheVariants.{Refused}
+use Rattle.refusal.specs.Verdict.{Verdict}
 use Rattle.plan.specs.Plan.{Plan}
-use Rattle.lookup.specs.declared.Located.{Located}
+use Rattle.timeline.specs.declared.Located.{Located}
+use Rattle.records.specs.declared.WindowNo.{WindowNo}
 use Rattle.lookup.specs.Lookup.{located, lookup_of}
 use Rattle.protocol.specs.declared.Call.{Call}
-use Rattle.protocol.specs.declared.Call.TheVariants.{None, SaveFor, SwapFor, ResumeFor}
+use Rattle.protocol.specs.declared.Call.TheVariants.{SaveFor, SwapFor, ResumeFor}
 use Rattle.protocol.specs.declared.Stage.TheVariants.{ProgramRegions}
 use Rattle.protocol.specs.declared.Cause.TheVariants.{TickInSwitch, BadStatus}
 use Rattle.state.specs.declared.State.{State}
@@ -28,9 +28,9 @@ use Rattle.demands.specs.Refusals.{RightVerdict, RightWindow}
 use Rattle.demands.specs.Run.{IsTheMachine}
 
 abbrev pub refuses_every : Plan → Verdict
-refuses_every p = Refused Counts
+refuses_every p = Err Counts
 
-abbrev pub says_zero : Plan → ℕ → Located
+abbrev pub says_zero : Plan → ℕ → Located WindowNo
 says_zero p t = located 0 (lookup_of p t).verdict
 
 -- machines that start as they should
@@ -45,11 +45,11 @@ abbrev pub stops_at_once : Plan → Machine
 stops_at_once p = record { start = cold_of p; answer = stop_for }
 
 -- the tick that ends a window asks for the resume, as if save and swap had been answered
-abbrev pub resume_first : Call → Call
+abbrev pub resume_first : Option Call → Option Call
 resume_first None = None
-resume_first (SaveFor q) = ResumeFor q
-resume_first (SwapFor q) = SwapFor q
-resume_first (ResumeFor q) = ResumeFor q
+resume_first (Some (SaveFor q)) = Some (ResumeFor q)
+resume_first (Some (SwapFor q)) = Some (SwapFor q)
+resume_first (Some (ResumeFor q)) = Some (ResumeFor q)
 
 abbrev pub asked_at_once : Answer → Answer
 asked_at_once a = record { state = a.state; call = resume_first a.call; verdict = a.verdict }
@@ -90,4 +90,4 @@ pub record BadVersions : Type 0 where
 
 pub record OneRightAnswer : Type 0 where
   pub verdict : (p : Plan) (v w : Verdict) → RightVerdict p v → RightVerdict p w → v ≡ w
-  pub window : (p : Plan) (t : ℕ) (l m : Located) → RightWindow p t l → RightWindow p t m → l ≡ m
+  pub window : (p : Plan) (t : ℕ) (l m : Located WindowNo) → RightWindow p t l → RightWindow p t m → l ≡ m

@@ -8,7 +8,7 @@ use mathlib.Core.Path.{◌≡◌, refl, sym, ap, ◌∙◌, subst}
 use Prim.Native.Nat.{ℕ, ◌+◌}
 use native.Mathlib.Omega.{arith}
 use Rattle.refusal.specs.declared.Refusal.TheVariants.{MachineStopped}
-use Rattle.refusal.specs.declared.Verdict.TheVariants.{Accepted}
+use Rattle.refusal.specs.Verdict.{accepted}
 use Rattle.verdict.specs.Outcome.{outcome}
 use Rattle.verdict.proofs.Outcome.{same_outcome}
 use Rattle.timeline.specs.Windows.{Holds}
@@ -486,7 +486,7 @@ module _ (p : Plan) (a : plan.AcceptedIf p) where
 
 -- the check's verdict, and what it says of the plan
 pub accepts : (p : Plan) → CheckAccepts p → plan.AcceptedIf p
-accepts p ok = accepted_all p (same_outcome (verdict_of p) Accepted ok)
+accepts p ok = accepted_all p (same_outcome (verdict_of p) accepted ok)
 
 pub demand_3 : Demand3
 demand_3 p u32 ok =

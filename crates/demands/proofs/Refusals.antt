@@ -8,8 +8,8 @@ use Prim.Native.Nat.{ℕ, ◌<◌, ◌^◌}
 use native.Mathlib.Omega.{arith}
 use Rattle.refusal.specs.declared.Refusal.{Refusal}
 use Rattle.refusal.specs.declared.Refusal.TheVariants.{MachineStopped, StrangeState}
-use Rattle.refusal.specs.declared.Verdict.{Verdict}
-use Rattle.refusal.specs.declared.Verdict.TheVariants.{Accepted, Refused}
+use Rattle.refusal.specs.Verdict.{Verdict, accepted}
+use Rattle.std.specs.Prelude.{Ok, Err}
 use Rattle.verdict.specs.Outcome.{outcome}
 use Rattle.verdict.proofs.Outcome.{same_outcome}
 use Rattle.plan.specs.Plan.{Plan, window_count}
@@ -17,7 +17,8 @@ use Rattle.plan.specs.Faults.{verdict_of}
 use Rattle.accepted.specs.Accepted as plan
 use Rattle.accepted.proofs.AcceptedLaws.{all_accepted}
 use Rattle.accepted.proofs.WrongLaws.{refused_for}
-use Rattle.lookup.specs.declared.Located.{Located}
+use Rattle.timeline.specs.declared.Located.{Located}
+use Rattle.records.specs.declared.WindowNo.{WindowNo}
 use Rattle.lookup.specs.Lookup.{lookup_of}
 use Rattle.lookup.proofs.LookupLaws.{lookup_refused, lookup_past, lookup_answers}
 use Rattle.words.specs.declared.Words.{Words}
@@ -41,22 +42,22 @@ use Rattle.demands.specs.Refusals.{RightVerdict, RightWindow, WordsRefusals, is_
 use Rattle.demands.proofs.Machine.{accepts, stopped_number, running_number}
 
 -- an outcome that is not (0, 0) is a refusal's
-pub told : (v : Verdict) → (outcome v ≡ (0, 0) → ⊥) → (r : Refusal) × (v ≡ Refused r)
-told Accepted refusal = absurd (refusal refl)
-told (Refused r) refusal = (r, refl)
+pub told : (v : Verdict) → (outcome v ≡ (0, 0) → ⊥) → (r : Refusal) × (v ≡ Err r)
+told (Ok _) refusal = absurd (refusal refl)
+told (Err r) refusal = (r, refl)
 
-numbered : (v : Verdict) (number place : ℕ) → 0 < number → outcome v ≡ (number, place) → (r : Refusal) × (v ≡ Refused r)
-numbered Accepted number place some e = absurd (omega (arith, ap (λ (o : ℕ × ℕ). o.0) e))
-numbered (Refused r) number place some e = (r, refl)
+numbered : (v : Verdict) (number place : ℕ) → 0 < number → outcome v ≡ (number, place) → (r : Refusal) × (v ≡ Err r)
+numbered (Ok _) number place some e = absurd (omega (arith, ap (λ (o : ℕ × ℕ). o.0) e))
+numbered (Err r) number place some e = (r, refl)
 
-pub accepted : (p : Plan) → CheckAccepts p → verdict_of p ≡ Accepted
-accepted p ok = same_outcome (verdict_of p) Accepted ok
+pub check_accepts : (p : Plan) → CheckAccepts p → verdict_of p ≡ accepted
+check_accepts p ok = same_outcome (verdict_of p) accepted ok
 
 pub right_verdict : (p : Plan) → RightVerdict p (verdict_of p)
 right_verdict p =
     record {
       accepted = (accepts p, λ a. ap outcome (all_accepted p a));
-      refused = λ r. (λ e. (refused_for p r).0 (same_outcome (verdict_of p) (Refused r) e), λ f. ap outcome ((refused_for p r).1 f));
+      refused = λ r. (λ e. (refused_for p r).0 (same_outcome (verdict_of p) (Err r) e), λ f. ap outcome ((refused_for p r).1 f));
     }
 
 pub right_window : (p : Plan) (t : ℕ) → RightWindow p t (lookup_of p t)
@@ -65,10 +66,10 @@ right_window p t =
       first_the_plan = λ refusal.
           let (r, e) = told (verdict_of p) refusal in
           let says = lookup_refused p t r e in
-          (ap (λ (l : Located). outcome l.verdict) says ∙ sym (ap outcome e), ap (λ (l : Located). l.window.0) says);
+          (ap (λ (l : Located WindowNo). outcome l.verdict) says ∙ sym (ap outcome e), ap (λ (l : Located WindowNo). l.window.0) says);
       then_12 = λ ok past.
-          let says = lookup_past p t (accepted p ok) past in
-          (ap (λ (l : Located). outcome l.verdict) says, ap (λ (l : Located). l.window.0) says);
+          let says = lookup_past p t (check_accepts p ok) past in
+          (ap (λ (l : Located WindowNo). outcome l.verdict) says, ap (λ (l : Located WindowNo). l.window.0) says);
       else_found = λ ok below. let found = lookup_answers p (accepts p ok) t below in (ap outcome found.0, found.1);
     }
 
@@ -80,25 +81,25 @@ words_refusals p q =
           let says = words_refused p q r e in
           (ap (λ (w : Words). outcome w.verdict) says ∙ sym (ap outcome e), ap (λ (w : Words). w.slots) says);
       then_15 = λ ok unknown.
-          let says = words_unknown p q (accepted p ok) unknown in
+          let says = words_unknown p q (check_accepts p ok) unknown in
           (ap (λ (w : Words). outcome w.verdict) says, ap (λ (w : Words). w.slots) says);
-      else_none = λ ok known. ap (λ (w : Words). outcome w.verdict) (words_found p q (accepted p ok) known);
+      else_none = λ ok known. ap (λ (w : Words). outcome w.verdict) (words_found p q (check_accepts p ok) known);
     }
 
 module _ (p : Plan) (s : State) where
   -- what the guard refuses, every event is refused with
-  guarded : (e : Event) (r : Refusal) → guard_of p s ≡ Refused r → outcome_of p s e ≡ outcome (Refused r)
+  guarded : (e : Event) (r : Refusal) → guard_of p s ≡ Err r → outcome_of p s e ≡ outcome (Err r)
   guarded (tick t) r g = ap (λ (x : Answer). outcome x.verdict) (tick_refused p s t r g)
   guarded (status word) r g = ap (λ (x : Answer). outcome x.verdict) (status_refused p s word r g)
 
   module _ (a : plan.AcceptedIf p) where
-    strange : (Reached p s → ⊥) → guard_of p s ≡ Refused StrangeState
+    strange : (Reached p s → ⊥) → guard_of p s ≡ Err StrangeState
     strange unreached = guard_strange p s (all_accepted p a) (eq-false_of_not-eq-true (λ fit. unreached ((let_in_exactly p a s).0 fit)))
 
-    late : Reached p s → is_stopped s.phase ≡ true → guard_of p s ≡ Refused MachineStopped
+    late : Reached p s → is_stopped s.phase ≡ true → guard_of p s ≡ Err MachineStopped
     late reached stop = guard_stopped p s (all_accepted p a) ((let_in_exactly p a s).1 reached) stop
 
-    goes : Reached p s → is_stopped s.phase ≡ false → guard_of p s ≡ Accepted
+    goes : Reached p s → is_stopped s.phase ≡ false → guard_of p s ≡ accepted
     goes reached go = guard_accepted p s (all_accepted p a) ((let_in_exactly p a s).1 reached) go
 
     -- and what it lets in is refused for no call, or not at all

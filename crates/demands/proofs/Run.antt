@@ -1,6 +1,7 @@
 -- A run goes where the machine goes, turn by turn: `Tracks`, what holds of it before a call is logged, and `Logged`, after. The calls so far are the plan's,
 -- so the call that an answer brings is the next of them, and the log has room for it.
 -- Assumes nothing.
+use Rattle.std.specs.Prelude.{Option, Some, None, Ok, Err}
 use mathlib.Core.Bool.{Bool, true, false, cond, true≢false, false≢true}
 use mathlib.Core.List.{List, [], ◌∷◌, ◌++◌, append-nil, head-eq_of_cons-eq}
 use mathlib.Core.Logic.{inl, inr}
@@ -17,7 +18,7 @@ use Rattle.plan.specs.Faults.{verdict_of}
 use Rattle.accepted.specs.Accepted as plan
 use Rattle.accepted.proofs.AcceptedLaws.{all_accepted}
 use Rattle.protocol.specs.declared.Call.{Call}
-use Rattle.protocol.specs.declared.Call.TheVariants.{None, SaveFor, SwapFor, ResumeFor}
+use Rattle.protocol.specs.declared.Call.TheVariants.{SaveFor, SwapFor, ResumeFor}
 use Rattle.protocol.specs.declared.CallWords.{CallWords}
 use Rattle.protocol.specs.declared.Stage.TheVariants.{Running, SaveCtx, ProgramRegions, Resume}
 use Rattle.protocol.specs.declared.Phase.{Phase}
@@ -28,8 +29,7 @@ use Rattle.refusal.specs.declared.Refusal.{Refusal}
 use Rattle.refusal.specs.declared.Refusal.TheVariants.{LogTooShort}
 use Rattle.refusal.specs.Table.{number_of, place_of}
 use Rattle.verdict.specs.Outcome.{outcome}
-use Rattle.refusal.specs.declared.Verdict.{Verdict}
-use Rattle.refusal.specs.declared.Verdict.TheVariants.{Accepted, Refused}
+use Rattle.refusal.specs.Verdict.{Verdict, accepted}
 use Rattle.run_log.specs.Log.{asks, call_log}
 use Rattle.run_log.proofs.LogLaws.{too_few, long_enough, one_call_more}
 use Rattle.state.specs.declared.State.{State}
@@ -49,10 +49,10 @@ use Rattle.demands.specs.Machine.{HasStopped, Open, Sentences}
 use Rattle.machine.specs.declared.Course.{Course}
 use Rattle.machine.specs.declared.RunAnswer.{RunAnswer}
 use Rattle.machine.proofs.RunLaws.{no_tick, takes_tick, no_status, takes_status, turn_stopped, turn_open, turn_quiet, one_turn_fewer, one_turn_more, logs_the_call, logs_nothing, all_done, plan_first, then_16, runs_refused, runs_whole, let_in}
-use Rattle.machine.specs.Run.{end_of_run, took, turn, Progress, progress, with_logged, go_on as goOnRun, left, ended, run_verdict, cold_course, whole, run_of, log_of}
+use Rattle.machine.specs.Run.{took, turn, Progress, progress, with_logged, go_on as goOnRun, left, ended, run_verdict, cold_course, whole, run_of, log_of}
 use Rattle.demands.specs.Run.{Next, ByTheRule, AtTheEnd, stopping_tick, IsTheMachine, RunsAreTheMachine, SentencesAt, RunsMeetDemand3, RunRefused, RefusedRuns}
 use Rattle.demands.proofs.Machine.{accepts, stopped_number, not_open, is_open, demand_3}
-use Rattle.demands.proofs.Refusals.{told, accepted}
+use Rattle.demands.proofs.Refusals.{told, check_accepts}
 use Rattle.demands.proofs.Calls.{the_plans_calls}
 
 -- a call waits for its status
@@ -90,20 +90,20 @@ module _ (p : Plan) (a : plan.AcceptedIf p) (s : State) (f : Fits p s) where
 -- what an answer adds to the calls
 heard_calls : (e : Event) (v : Verdict) (entries : List Entry) → calls_in (heard e v entries) ≡ calls_in entries
 heard_calls (tick t) v entries = refl
-heard_calls (status word) Accepted entries = refl
-heard_calls (status word) (Refused r) entries = refl
+heard_calls (status word) (Ok _) entries = refl
+heard_calls (status word) (Err r) entries = refl
 
-said_count : (call : Call) (entries : List Entry) → length (calls_in (said call entries)) ≡ length (calls_in entries) + cond (asks call) 1 0
+said_count : (call : Option Call) (entries : List Entry) → length (calls_in (said call entries)) ≡ length (calls_in entries) + cond (asks call) 1 0
 said_count None entries = omega arith
-said_count (SaveFor q) entries = omega arith
-said_count (SwapFor q) entries = omega arith
-said_count (ResumeFor q) entries = omega arith
+said_count (Some (SaveFor q)) entries = omega arith
+said_count (Some (SwapFor q)) entries = omega arith
+said_count (Some (ResumeFor q)) entries = omega arith
 
-said_last : (call : Call) (entries : List Entry) → asks call ≡ true → calls_in (said call entries) ≡ call_words call ∷ calls_in entries
+said_last : (call : Option Call) (entries : List Entry) → asks call ≡ true → calls_in (said call entries) ≡ call_words call ∷ calls_in entries
 said_last None entries asked = absurd (false≢true asked)
-said_last (SaveFor q) entries asked = refl
-said_last (SwapFor q) entries asked = refl
-said_last (ResumeFor q) entries asked = refl
+said_last (Some (SaveFor q)) entries asked = refl
+said_last (Some (SwapFor q)) entries asked = refl
+said_last (Some (ResumeFor q)) entries asked = refl
 
 -- the lists of events, with one more
 ticks_more : (events : List Event) (e : Event) → ticks_of (events ++ (e ∷ [])) ≡ ticks_of events ++ ticks_of (e ∷ [])
@@ -132,7 +132,7 @@ module _ (p : Plan) (a : plan.AcceptedIf p) (h : History) (i : Inv p h) where
   tick_counts : (t : ℕ) → is_stopped h.state.phase ≡ false → TickCase (timetable_of p) h.state t → Counts (tick t) (answer_of p h.state (tick t))
   tick_counts t goes (window_goes_on e due more to) =
       subst (Counts (tick t)) (sym (on_tick p a h.state i.fit e t to))
-      (ap (λ (phase : Phase). counted (tick t) Accepted (is_stopped phase) h.taken + stopping_tick (phase_words phase).cause) e ∙ omega arith)
+      (ap (λ (phase : Phase). counted (tick t) accepted (is_stopped phase) h.taken + stopping_tick (phase_words phase).cause) e ∙ omega arith)
   tick_counts t goes (window_ends e due last to) = subst (Counts (tick t)) (sym (on_tick p a h.state i.fit e t to)) (omega arith)
   tick_counts t goes (wrong_tick e wrong to) = subst (Counts (tick t)) (sym (on_tick p a h.state i.fit e t to)) refl
   tick_counts t goes (tick_in_a_switch stage e waits to) = subst (Counts (tick t)) (sym (on_tick p a h.state i.fit e t to)) refl
@@ -194,7 +194,7 @@ module _ (p : Plan) (a : plan.AcceptedIf p) (ticks statuses log₀ : List ℕ) (
 
   -- which goes into the log: there is room for it
   module _ (g : Progress) (events : List Event) (t : Tracks g (cond (asks g.course.call) 1 0) events) (its : NextCall g) where
-    abbrev call : Call
+    abbrev call : Option Call
     call = g.course.call
 
     abbrev after : Progress
@@ -323,8 +323,8 @@ module _ (p : Plan) (a : plan.AcceptedIf p) (ticks statuses log₀ : List ℕ) (
 
   -- a turn: the run is at its end, or takes the event that the rule asks for
   data Turned (g : Progress) (events : List Event) : Type 0 where
-    at_end : turn p ticks statuses g.course ≡ end_of_run g.course → AtTheEnd ticks statuses (H events) (ended g) → Turned g events
-    took_one : (c : Course) (e : Event) → turn p ticks statuses g.course ≡ c → c.going ≡ true
+    at_end : turn p ticks statuses g.course ≡ None → AtTheEnd ticks statuses (H events) (ended g) → Turned g events
+    took_one : (c : Course) (e : Event) → turn p ticks statuses g.course ≡ Some c
         → Tracks (progress c g.calls g.log) (cond (asks c.call) 1 0) (events ++ (e ∷ [])) → NextCall (progress c g.calls g.log) → Turned g events
 
   module _ (g : Progress) (events : List Event) (t : Tracks g 0 events) where
@@ -355,7 +355,7 @@ module _ (p : Plan) (a : plan.AcceptedIf p) (ticks statuses log₀ : List ℕ) (
                 let word = get_or statuses c.statuses 0 in
                 let e = status word in
                 let takes = turn_open p ticks statuses c goes asked ∙ takes_status p c statuses some in
-                took_one _ e takes refl
+                took_one _ e takes
                 (took_it g events t goes e c.ticks (c.statuses + 1) (omega arith)
                 (ticks_more events e ∙ append-nil (ticks_of events) ∙ t.ticks_in_order) t.ticks_used
                 (statuses_more events e
@@ -376,7 +376,7 @@ module _ (p : Plan) (a : plan.AcceptedIf p) (ticks statuses log₀ : List ℕ) (
                 let at = get_or ticks c.ticks 0 in
                 let e = tick at in
                 let takes = turn_quiet p ticks statuses c goes none_open ∙ takes_tick p c ticks some in
-                took_one _ e takes refl
+                took_one _ e takes
                 (took_it g events t goes e (c.ticks + 1) c.statuses refl
                 (ticks_more events e
                 ∙ ap (λ (l : List ℕ). l ++ (at ∷ [])) t.ticks_in_order
@@ -405,41 +405,20 @@ module _ (p : Plan) (a : plan.AcceptedIf p) (ticks statuses log₀ : List ℕ) (
     tracks : Tracks g 0 events
     to_the_end : AtTheEnd ticks statuses (H events) (ended g)
 
-  finish : (turns : ℕ) (g : Progress) (events : List Event) → Tracks g (cond (asks g.course.call) 1 0) events → NextCall g → g.course.going ≡ true
+  finish : (turns : ℕ) (g : Progress) (events : List Event) → Tracks g (cond (asks g.course.call) 1 0) events → NextCall g
       → left ticks statuses g.course ≤ turns → Finished (goOnRun p ticks statuses turns g)
-  finish zero g events t its goes enough = absurd (omega (arith, one_turn_fewer p ticks statuses g.course goes, enough))
-  finish (suc turns) g events t its goes enough =
-      subst Finished (sym (one_turn_more p ticks statuses g turns goes)) (of (finish turns) (turned (after g events t its) events (logs g events t its)))
+  finish zero g events t its enough = absurd (omega arith)
+  finish (suc turns) g events t its enough = of (finish turns) (turned (after g events t its) events (logs g events t its))
     where
-      of : ((g : Progress) (events : List Event) → Tracks g (cond (asks g.course.call) 1 0) events → NextCall g → g.course.going ≡ true
+      of : ((g : Progress) (events : List Event) → Tracks g (cond (asks g.course.call) 1 0) events → NextCall g
           → left ticks statuses g.course ≤ turns → Finished (goOnRun p ticks statuses turns g))
-          → Turned (after g events t its) events → Finished (goOnRun p ticks statuses turns (with_logged g (turn p ticks statuses g.course)))
+          → Turned (after g events t its) events → Finished (goOnRun p ticks statuses (suc turns) g)
       of rest (at_end is end) =
-          let so_far = logs g events t its in
-          subst (λ (c : Course). Finished (goOnRun p ticks statuses turns (with_logged g c))) (sym is)
-          (subst Finished (sym (all_done p ticks statuses (with_logged g (end_of_run g.course)) turns refl))
-          (record {
-            events = events;
-            tracks =
-                record {
-                  state = so_far.state;
-                  ticks_in_order = so_far.ticks_in_order;
-                  statuses_in_order = so_far.statuses_in_order;
-                  ticks_used = so_far.ticks_used;
-                  statuses_used = so_far.statuses_used;
-                  by_the_rule = so_far.by_the_rule;
-                  waits = so_far.waits;
-                  taken = so_far.taken;
-                  count = so_far.count;
-                  in_the_log = so_far.in_the_log;
-                  as_long = so_far.as_long;
-                };
-            to_the_end = end;
-          }))
-      of rest (took_one c e is going tracks its-next) =
-          let fewer = one_turn_fewer p ticks statuses g.course goes ∙ ap (λ (c : Course). suc (left ticks statuses c)) is in
-          subst (λ (c : Course). Finished (goOnRun p ticks statuses turns (with_logged g c))) (sym is)
-          (rest (with_logged g c) (events ++ (e ∷ [])) tracks its-next going (omega (arith, fewer, enough)))
+          subst Finished (sym (all_done p ticks statuses g turns is))
+          (record { events = events; tracks = logs g events t its; to_the_end = end })
+      of rest (took_one c e is tracks its-next) =
+          subst Finished (sym (one_turn_more p ticks statuses g turns c is))
+          (rest (with_logged g c) (events ++ (e ∷ [])) tracks its-next (omega (arith, one_turn_fewer p ticks statuses g.course c is, enough)))
 
   -- the cold start
   abbrev start : Progress
@@ -467,7 +446,7 @@ module _ (p : Plan) (a : plan.AcceptedIf p) (ticks statuses log₀ : List ℕ) (
   start_call asked = ap (λ (w : ℕ). swap_for (owner_of p w)) (sym (zero-mod (window_count p))) ∙ sym (call_swap p 0)
 
   whole_run : Finished (whole p ticks statuses log₀)
-  whole_run = finish (left ticks statuses (cold_course p)) start [] start_tracks start_call refl (omega arith)
+  whole_run = finish (left ticks statuses (cold_course p)) start [] start_tracks start_call (omega arith)
 
   answer : IsTheMachine p ticks statuses log₀ (ended (whole p ticks statuses log₀)) (whole p ticks statuses log₀).log
   answer =
@@ -486,7 +465,7 @@ module _ (p : Plan) (a : plan.AcceptedIf p) (ticks statuses log₀ : List ℕ) (
         in_the_log = t.in_the_log;
       }
 
-  let_in_run : run_verdict p ticks log₀ ≡ Accepted
+  let_in_run : run_verdict p ticks log₀ ≡ accepted
   let_in_run = let_in p ticks log₀ (all_accepted p a) (long_enough (length log₀) (length ticks) long)
 
 pub runs_are_the_machine : RunsAreTheMachine
@@ -513,7 +492,7 @@ runs_meet_demand_3 p u32 ok ticks statuses log long =
     record { run = run; holds = sentences_at p (demand_3 p u32 ok) run.events; calls = the_plans_calls p ok run.events }
 
 -- a refused run
-refused_as : (p : Plan) (ticks statuses log : List ℕ) (r : Refusal) → run_verdict p ticks log ≡ Refused r
+refused_as : (p : Plan) (ticks statuses log : List ℕ) (r : Refusal) → run_verdict p ticks log ≡ Err r
     → RunRefused (number_of r) (place_of r) log (run_of p ticks statuses log) (log_of p ticks statuses log)
 refused_as p ticks statuses log r e =
     let (answers, leaves) = runs_refused p ticks statuses log r e in
@@ -528,5 +507,5 @@ refused_runs p ticks statuses log =
           subst (λ (o : ℕ × ℕ). RunRefused o.0 o.1 log (run_of p ticks statuses log) (log_of p ticks statuses log)) (sym (ap outcome e))
           (refused_as p ticks statuses log r (plan_first p ticks log r e));
       then_16 = λ ok short.
-          refused_as p ticks statuses log LogTooShort (then_16 p ticks log (accepted p ok) (too_few (length log) (length ticks) short));
+          refused_as p ticks statuses log LogTooShort (then_16 p ticks log (check_accepts p ok) (too_few (length log) (length ticks) short));
     }

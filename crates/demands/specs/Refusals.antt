@@ -3,7 +3,7 @@
 -- and 16 come after the plan's". An outcome is the number and the place of a verdict, 0 and 0 where it accepts.
 use Rattle.std.specs.Prelude.{Bool, true, false, List, ◌↔◌, ◌≡◌, ℕ, ◌≤◌, ◌<◌, ◌^◌, replicate}
 use Rattle.refusal.specs.declared.Refusal.{Refusal}
-use Rattle.refusal.specs.declared.Verdict.{Verdict}
+use Rattle.refusal.specs.Verdict.{Verdict}
 use Rattle.refusal.specs.Table.{number_of, place_of}
 use Rattle.verdict.specs.Outcome.{outcome}
 use Rattle.timeline.specs.Windows.{OnlyWindow}
@@ -12,7 +12,8 @@ use Rattle.plan.specs.Plan.{Plan, frame_length, window_count, offset_of, budget_
 use Rattle.plan.specs.Faults.{verdict_of}
 use Rattle.accepted.specs.Accepted.{AcceptedIf}
 use Rattle.accepted.specs.Wrong.{FirstWrong}
-use Rattle.lookup.specs.declared.Located.{Located}
+use Rattle.timeline.specs.declared.Located.{Located}
+use Rattle.records.specs.declared.WindowNo.{WindowNo}
 use Rattle.lookup.specs.Lookup.{lookup_of}
 use Rattle.words.specs.Slots.{slot_count}
 use Rattle.words.specs.Words.{no_pair, words_of}
@@ -31,7 +32,7 @@ pub record RightVerdict (p : Plan) (v : Verdict) : Type 0 where
   pub refused : (r : Refusal) → (outcome v ≡ (number_of r, place_of r)) ↔ FirstWrong p r
 
 -- the answer of a lookup: the plan's number, then 12, with window 0; else the only window that holds the tick
-pub record RightWindow (p : Plan) (t : ℕ) (l : Located) : Type 0 where
+pub record RightWindow (p : Plan) (t : ℕ) (l : Located WindowNo) : Type 0 where
   pub first_the_plan : (CheckAccepts p → ⊥) → (outcome l.verdict ≡ outcome (verdict_of p)) × (l.window.0 ≡ 0)
   pub then_12 : CheckAccepts p → frame_length p ≤ t → (outcome l.verdict ≡ (12, 0)) × (l.window.0 ≡ 0)
   pub else_found : CheckAccepts p → t < frame_length p

@@ -11,10 +11,9 @@ use Rattle.run_log.specs.Log.{call_log}
 use Rattle.state.specs.State.{zeros}
 use Rattle.machine.specs.declared.RunAnswer.{RunAnswer}
 use Rattle.machine.specs.Run.{run_of, log_of}
-use Rattle.history.specs.Reached.{Event, tick, status}
+use Rattle.history.specs.Reached.{Event, tick, status, ticks_of, statuses_of}
 use Rattle.history.specs.History.{Machine, machine_of, History, next, history}
 use Rattle.history.specs.Calls.{call_at, calls_in}
-use Rattle.history.specs.Reached.{ticks_of, statuses_of}
 use Rattle.demands.specs.Machine.{CheckAccepts, Runs, HasStopped, Open, StopsExactly, StaysStopped, RunsOrWaits, RightTick, ZeroGoesOn, WhileRunning}
 use Rattle.demands.specs.Calls.{CallsTold}
 

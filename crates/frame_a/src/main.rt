@@ -2,11 +2,12 @@
 // 1024 writable bytes. Then the same frame with budget 0 in window 2.
 #![tactic(auto)]
 
-use output::{end, say, say_hex, say_verdict, say_with};
-use plan::Frame;
+use output::Outcome;
+use plan::{Frame, Plan};
 use records::PartitionNo;
 use std::io;
-use words::Pair;
+
+const FRAME: Frame = Frame { length: 50 };
 
 // Owner, offset and budget of each window.
 const FRAME_A: [u32; 12] = [0, 0, 10, 1, 10, 20, 0, 30, 5, 2, 35, 15];
@@ -16,48 +17,40 @@ const ONE_BUDGET_ZERO: [u32; 12] = [0, 0, 10, 1, 10, 20, 0, 30, 0, 2, 35, 15];
 // Partition, base, size and access.
 const ROW: [u32; 4] = [1, 0x20000000, 1024, 1];
 
-fn print_check(rt: &impl Print, name: &[u8], windows: &[u32]) -> io::Result<()> {
-    let frame = Frame { length: 50 };
-    say(rt, name)?;
-    say_verdict(rt, frame.check(windows, &[]))?;
-    end(rt)
+fn print_check(rt: &impl Print, name: &str, windows: &[u32]) -> io::Result<()> {
+    let plan = Plan::new(FRAME, windows, &[]);
+    println!(rt; "{name}\t{}", Outcome(plan.check()))
 }
 
-fn print_window(rt: &impl Print, t: u32) -> io::Result<()> {
-    let frame = Frame { length: 50 };
-    let located = lookup::lookup(frame, &FRAME_A, &[], t);
-    let verdict = located.verdict;
-    say_with(rt, b"tick ", t)?;
-    say(rt, b"\t")?;
-    say_verdict(rt, verdict)?;
-    say_with(rt, b"\twindow ", located.window.0)?;
-    end(rt)
-}
-
-fn print_pair(rt: &impl Print, name: &[u8], pair: Pair) -> io::Result<()> {
-    say_hex(rt, name, pair.first)?;
-    say_hex(rt, b"\t", pair.second)?;
-    end(rt)
+fn print_windows(rt: &impl Print) -> io::Result<()> {
+    let plan = Plan::new(FRAME, &FRAME_A, &[]);
+    for t in [9, 10, 49, 50] {
+        let located = lookup::lookup(&plan, t);
+        println!(rt;
+            "tick {t}\t{}\twindow {}",
+            Outcome(located.verdict),
+            located.window.0
+        )?;
+    }
+    Ok(())
 }
 
 fn print_words(rt: &impl Print) -> io::Result<()> {
-    let frame = Frame { length: 50 };
-    let words = region::words_of(frame, &FRAME_A, &ROW, PartitionNo(1));
-    let verdict = words.verdict;
-    let slots = words.slots;
-    say(rt, b"partition 1\t")?;
-    say_verdict(rt, verdict)?;
-    end(rt)?;
-    print_pair(rt, b"partition 1, slot 0\t", slots[0])?;
-    print_pair(rt, b"partition 1, slot 1\t", slots[1])
+    let plan = Plan::new(FRAME, &FRAME_A, &ROW);
+    let words = region::words_of(&plan, PartitionNo(1));
+    println!(rt; "partition 1\t{}", Outcome(words.verdict))?;
+    for (i, slot) in words.slots.iter().enumerate().take(2) {
+        println!(rt;
+            "partition 1, slot {i}\t{:08x}\t{:08x}",
+            slot.first, slot.second
+        )?;
+    }
+    Ok(())
 }
 
 fn main(rt: HostRuntime) -> io::Result<()> {
-    print_check(&rt, b"frame A\t", &FRAME_A)?;
-    print_window(&rt, 9)?;
-    print_window(&rt, 10)?;
-    print_window(&rt, 49)?;
-    print_window(&rt, 50)?;
+    print_check(&rt, "frame A", &FRAME_A)?;
+    print_windows(&rt)?;
     print_words(&rt)?;
-    print_check(&rt, b"budget 0 in window 2\t", &ONE_BUDGET_ZERO)
+    print_check(&rt, "budget 0 in window 2", &ONE_BUDGET_ZERO)
 }

@@ -2,13 +2,12 @@
 // 30, so that windows 0 and 1 pass, then tick 40, which is not due; every call is answered with zero.
 #![tactic(auto)]
 
-use output::{say, say_wide, say_with};
-use plan::Frame;
+use plan::{Frame, Plan};
 use protocol::{Cause, Phase, Stage};
 use records::{WindowNo, nth_window, window_end};
 use run::{RunAnswer, run};
-use std::io;
-use timeline::next_window;
+use std::{fmt, io};
+use timeline::next_of;
 
 const FRAME: Frame = Frame { length: 50 };
 
@@ -22,94 +21,90 @@ const TICKS: [u32; 32] = [
     26, 27, 28, 29, 30, 40,
 ];
 
+// A value that is written in this program's words.
+#[derive(Drop)]
+struct Told<T>(T);
+
+impl fmt::Display for Told<Stage> {
+    fn fmt<W: fmt::Write>(&self, f: &mut fmt::Formatter<W>) -> fmt::Result {
+        f.write_str(match self.0 {
+            Stage::Running => "while a partition ran",
+            Stage::SaveCtx => "while the save was open",
+            Stage::ProgramRegions => "while the swap was open",
+            Stage::Resume => "while the resume was open",
+        })
+    }
+}
+
+impl fmt::Display for Told<Cause> {
+    fn fmt<W: fmt::Write>(&self, f: &mut fmt::Formatter<W>) -> fmt::Result {
+        match self.0 {
+            Cause::WrongTick(t) => write!(f, "by tick {t}"),
+            Cause::TickInSwitch(t) => write!(f, "by a tick in a switch, {t}"),
+            Cause::BadStatus(word) => write!(f, "by the status {word}"),
+        }
+    }
+}
+
+impl fmt::Display for Told<Phase> {
+    fn fmt<W: fmt::Write>(&self, f: &mut fmt::Formatter<W>) -> fmt::Result {
+        match self.0 {
+            Phase::At(stage) => write!(f, "went on {}", Told(stage)),
+            Phase::Stopped(stage, cause) => {
+                write!(f, "stopped {}, {}", Told(stage), Told(cause))
+            }
+        }
+    }
+}
+
 // The ticks of window w, which the partition that was resumed has now.
-fn say_window(rt: &impl Print, windows: &[u32], w: u32) -> io::Result<()> {
-    let window = nth_window(windows, WindowNo(w));
-    say_with(rt, b": it runs in window ", w)?;
-    say_with(rt, b", which starts at tick ", window.offset)?;
-    say_wide(rt, b" and ends before tick ", window_end(window))
+fn say_window(rt: &impl Print, plan: &Plan<'_>, w: u32) -> io::Result<()> {
+    let window = nth_window(plan.windows(), WindowNo(w));
+    println!(rt;
+        ": it runs in window {w}, which starts at tick {} and ends before tick {}",
+        window.offset,
+        window_end(window)
+    )
 }
 
 // One record of the log; w is the window that is next to run, and after a resume the one after it.
-fn say_call(
-    rt: &impl Print,
-    number: u32,
-    partition: u32,
-    windows: &[u32],
-    w: u32,
-) -> io::Result<u32> {
-    if number == 1 {
-        say_with(rt, b"save the context of partition ", partition)?;
-        say(rt, b"\n")?;
-        return Ok(w);
+fn say_call(rt: &impl Print, number: u32, q: u32, plan: &Plan<'_>, w: u32) -> io::Result<u32> {
+    match number {
+        1 => println!(rt; "save the context of partition {q}")?,
+        2 => println!(rt; "swap in the regions of partition {q}")?,
+        _ => {
+            print!(rt; "resume partition {q}")?;
+            say_window(rt, plan, w)?;
+            return Ok(next_of(COUNT, w));
+        }
     }
-    if number == 2 {
-        say_with(rt, b"swap in the regions of partition ", partition)?;
-        say(rt, b"\n")?;
-        return Ok(w);
-    }
-    say_with(rt, b"resume partition ", partition)?;
-    say_window(rt, windows, w)?;
-    say(rt, b"\n")?;
-    Ok(next_window(COUNT, w))
+    Ok(w)
 }
 
-fn say_log(rt: &impl Print, log: &[u32], calls: usize, windows: &[u32]) -> io::Result<()> {
-    let mut w: u32 = 0;
-    for k in 0..calls.min(log.len() / 2) {
-        w = say_call(rt, log[k * 2], log[k * 2 + 1], windows, w)?;
+fn say_log(rt: &impl Print, plan: &Plan<'_>, log: &[u32], calls: usize) -> io::Result<()> {
+    let mut w = 0;
+    for record in log.chunks_exact(2).take(calls) {
+        w = say_call(rt, record[0], record[1], plan, w)?;
     }
     Ok(())
 }
 
-fn say_stage(rt: &impl Print, stage: Stage) -> io::Result<()> {
-    match stage {
-        Stage::Running => say(rt, b"while a partition ran"),
-        Stage::SaveCtx => say(rt, b"while the save was open"),
-        Stage::ProgramRegions => say(rt, b"while the swap was open"),
-        Stage::Resume => say(rt, b"while the resume was open"),
-    }
-}
-
-fn say_cause(rt: &impl Print, cause: Cause) -> io::Result<()> {
-    match cause {
-        Cause::WrongTick(t) => say_with(rt, b", by tick ", t),
-        Cause::TickInSwitch(t) => say_with(rt, b", by a tick in a switch, ", t),
-        Cause::BadStatus(word) => say_with(rt, b", by the status ", word),
-    }
-}
-
-fn say_phase(rt: &impl Print, phase: Phase) -> io::Result<()> {
-    match phase {
-        Phase::At(stage) => {
-            say(rt, b"went on ")?;
-            say_stage(rt, stage)
-        }
-        Phase::Stopped(stage, cause) => {
-            say(rt, b"stopped ")?;
-            say_stage(rt, stage)?;
-            say_cause(rt, cause)
-        }
-    }
-}
-
 fn say_end(rt: &impl Print, end: RunAnswer) -> io::Result<()> {
     let state = end.state;
-    let phase = state.phase;
-    say_phase(rt, phase)?;
-    say_with(rt, b"; tick ", state.due)?;
-    say_wide(rt, b" was due. It had used ", end.ticks as u64)?;
-    say_wide(rt, b" ticks and ", end.statuses as u64)?;
-    say_wide(rt, b" statuses, and written ", end.calls as u64)?;
-    say(rt, b" calls.\n")
+    println!(rt;
+        "{}; tick {} was due. It had used {} ticks and {} statuses, and written {} calls.",
+        Told(state.phase),
+        state.due,
+        end.ticks,
+        end.statuses,
+        end.calls
+    )
 }
 
 fn main(rt: HostRuntime) -> io::Result<()> {
-    let windows = FRAME_A;
-    let ticks = TICKS;
-    let statuses = [0u32; 16];
+    let plan = Plan::new(FRAME, &FRAME_A, &[]);
     let mut log = [0u32; 196];
-    let end = run(FRAME, &windows, &[], &ticks, &statuses, &mut log);
-    say_log(&rt, &log, end.calls, &windows)?;
+    let end = run(&plan, &TICKS, &[0; 16], &mut log);
+    say_log(&rt, &plan, &log, end.calls)?;
     say_end(&rt, end)
 }

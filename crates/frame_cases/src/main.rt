@@ -3,31 +3,21 @@
 #![tactic(auto)]
 
 use major_frame::MajorFrame;
-use output::{end, put, put_verdict, say};
+use output::{end, put, put_verdict, say, say_with};
 use std::io;
 
 // Owners 0, 1, 0, 2, as in frame A.
-fn frame(
-    o0: u32,
-    o1: u32,
-    o2: u32,
-    o3: u32,
-    b0: u32,
-    b1: u32,
-    b2: u32,
-    b3: u32,
-    frame_len: u32,
-) -> MajorFrame {
+fn frame(offset: [u32; 4], budget: [u32; 4], frame_len: u32) -> MajorFrame {
     MajorFrame {
         partition_id: [0, 1, 0, 2],
-        offset: [o0, o1, o2, o3],
-        budget: [b0, b1, b2, b3],
+        offset,
+        budget,
         frame_len,
     }
 }
 
 fn frame_a() -> MajorFrame {
-    frame(0, 10, 30, 35, 10, 20, 5, 15, 50)
+    frame([0, 10, 30, 35], [10, 20, 5, 15], 50)
 }
 
 fn show_frame(rt: &impl Print, name: &[u8], f: MajorFrame) -> io::Result<()> {
@@ -38,36 +28,30 @@ fn show_frame(rt: &impl Print, name: &[u8], f: MajorFrame) -> io::Result<()> {
 
 fn show_frames(rt: &impl Print) -> io::Result<()> {
     show_frame(rt, b"A:", frame_a())?;
-    show_frame(
-        rt,
-        b"sum 2^32:",
-        frame(0, 1, 2, 4294967295, 1, 1, 4294967293, 1, 0),
-    )?;
-    show_frame(
-        rt,
-        b"longest:",
-        frame(0, 1, 2, 4294967294, 1, 1, 4294967292, 1, 4294967295),
-    )?;
-    show_frame(rt, b"2 before 3:", frame(5, 10, 30, 35, 0, 20, 5, 15, 50))?;
-    show_frame(rt, b"gap:", frame(0, 10, 31, 35, 10, 20, 4, 15, 50))?;
-    show_frame(rt, b"2 before 5:", frame(0, 10, 30, 35, 10, 20, 5, 0, 51))?;
-    show_frame(rt, b"length:", frame(0, 10, 30, 35, 10, 20, 5, 15, 51))
-}
-
-fn show_lookup(rt: &impl Print, name: &[u8], t: u32) -> io::Result<()> {
-    let r = frame_a().current_window(t);
-    let verdict = r.verdict;
-    say(rt, name)?;
-    put_verdict(rt, verdict)?;
-    put(rt, r.window)?;
-    end(rt)
+    let wraps = frame([0, 1, 2, 4294967295], [1, 1, 4294967293, 1], 0);
+    show_frame(rt, b"sum 2^32:", wraps)?;
+    let longest = frame([0, 1, 2, 4294967294], [1, 1, 4294967292, 1], 4294967295);
+    show_frame(rt, b"longest:", longest)?;
+    let late = frame([5, 10, 30, 35], [0, 20, 5, 15], 50);
+    show_frame(rt, b"2 before 3:", late)?;
+    let gap = frame([0, 10, 31, 35], [10, 20, 4, 15], 50);
+    show_frame(rt, b"gap:", gap)?;
+    let empty = frame([0, 10, 30, 35], [10, 20, 5, 0], 51);
+    show_frame(rt, b"2 before 5:", empty)?;
+    let long = frame([0, 10, 30, 35], [10, 20, 5, 15], 51);
+    show_frame(rt, b"length:", long)
 }
 
 fn show_lookups(rt: &impl Print) -> io::Result<()> {
-    show_lookup(rt, b"at 9:", 9)?;
-    show_lookup(rt, b"at 10:", 10)?;
-    show_lookup(rt, b"at 49:", 49)?;
-    show_lookup(rt, b"at 50:", 50)
+    for t in [9, 10, 49, 50] {
+        let located = frame_a().current_window(t);
+        say_with(rt, b"at ", t)?;
+        say(rt, b":")?;
+        put_verdict(rt, located.verdict)?;
+        put(rt, located.window)?;
+        end(rt)?;
+    }
+    Ok(())
 }
 
 fn main(rt: HostRuntime) -> io::Result<()> {

@@ -6,29 +6,32 @@ ghost use Rattle.machine.specs.Guard.{in_window, between_windows, at_start, fits
 use protocol::Stage;
 use records::{Window, nth_window, window_end};
 use state::State;
-use timeline::next_window;
+use timeline::next_of;
 
 // No switch is under way, and the due tick is in the current window, which is the target.
-fn in_window(count: u32, current: u32, target: u32, due: u32, window: Window) -> bool
-    ensures { result ≡ in_window count current target due window }
+fn in_window(state: State, count: u32, window: Window) -> bool
+    ensures { result ≡ in_window count state.current.0 state.target.0 state.due window }
 {
+    let current = state.current.0;
+    let due = state.due;
     let end = window_end(window);
-    (current < count) & (target == current) & (window.offset <= due) & ((due as u64) < end)
+    (current < count) & (state.target.0 == current) & (window.offset <= due) & ((due as u64) < end)
 }
 
 // A switch from a window to the next, the target, whose first tick is due.
-fn between_windows(count: u32, current: u32, target: u32, due: u32, window: Window) -> bool
-    ensures { result ≡ between_windows count current target due window }
+fn between_windows(state: State, count: u32, window: Window) -> bool
+    ensures { result ≡ between_windows count state.current.0 state.target.0 state.due window }
 {
-    let next = next_window(count, current);
-    (current < count) & (target == next) & (due == window.offset)
+    let current = state.current.0;
+    let next = next_of(count, current);
+    (current < count) & (state.target.0 == next) & (state.due == window.offset)
 }
 
 // The switch that a cold start is.
-fn at_start(current: u32, target: u32, due: u32) -> bool
-    ensures { result ≡ at_start current target due }
+fn at_start(state: State) -> bool
+    ensures { result ≡ at_start state.current.0 state.target.0 state.due }
 {
-    (current == 0) & (target == 0) & (due == 0)
+    (state.current.0 == 0) & (state.target.0 == 0) & (state.due == 0)
 }
 
 // The mark is set when the regions are programmed, clear when they are about to be.
@@ -46,13 +49,9 @@ fn fits_stage(stage: Stage, swapped: bool, inside: bool, between: bool, start: b
 pub(crate) fn fits_at(state: State, stage: Stage, count: u32, windows: &[u32]) -> bool
     ensures { result ≡ fits_at count windows.now state stage }
 {
-    let current = state.current.0;
-    let target = state.target;
-    let due = state.due;
-    let phase = state.phase;
-    let window = nth_window(windows, target);
-    let inside = in_window(count, current, target.0, due, window);
-    let between = between_windows(count, current, target.0, due, window);
-    let start = at_start(current, target.0, due);
-    phase.can_be(due) & fits_stage(stage, state.swapped, inside, between, start)
+    let window = nth_window(windows, state.target);
+    let inside = in_window(state, count, window);
+    let between = between_windows(state, count, window);
+    let start = at_start(state);
+    state.phase.can_be(state.due) & fits_stage(stage, state.swapped, inside, between, start)
 }

@@ -2,12 +2,11 @@
 #![tactic(auto)]
 
 ghost use Rattle.std.specs.Prelude.{◌≡◌, ◌/◌, ◌^◌, ◌<◌, length};
-ghost use Rattle.plan.specs.Plan.{plan_of};
 ghost use Rattle.machine.specs.Guard.{fits_at, state_verdict, guarded};
 
 use crate::fits::fits_at;
 pub use machine::Guarded;
-use plan::Frame;
+use plan::Plan;
 use protocol::{Phase, Stage};
 use records::Window;
 use refusal::{Refusal, Verdict};
@@ -28,35 +27,23 @@ fn let_in(state: State, stage: Stage, count: u32, windows: &[u32]) -> Verdict
     ensures { result ≡ state_verdict (fits_at count windows.now state stage) state.phase }
 {
     if !fits_at(state, stage, count, windows) {
-        return Verdict::Refused(Refusal::StrangeState);
+        return Err(Refusal::StrangeState);
     }
-    let phase = state.phase;
-    match phase {
-        Phase::At(_) => Verdict::Accepted,
-        Phase::Stopped(_, _) => Verdict::Refused(Refusal::MachineStopped),
+    match state.phase {
+        Phase::At(_) => Ok(()),
+        Phase::Stopped(_, _) => Err(Refusal::MachineStopped),
     }
 }
 
 // The plan's numbers come first.
-#[tactic(auto, using(accepted::proofs::AcceptedLaws::accepted_all, verdict::proofs::First::answers, verdict::proofs::First::answers_else, machine::proofs::GuardLaws::guard_plan, machine::proofs::GuardLaws::guard_state))]
-pub fn guard(state: State, frame: Frame, windows: &[u32], rows: &[u32]) -> Guarded
-    ensures { result ≡ guarded (plan_of frame windows.now rows.now) state }
+#[tactic(auto, using(accepted::proofs::AcceptedLaws::accepted_all, machine::proofs::GuardLaws::guard_plan, machine::proofs::GuardLaws::guard_state))]
+pub fn guard(state: State, plan: &Plan<'_>) -> Result<Guarded, Refusal>
+    ensures { result ≡ guarded plan.now state }
 {
-    let phase = state.phase;
-    let stage = phase.stage();
-    let verdict = frame.check(windows, rows);
-    let Verdict::Accepted = verdict else {
-        return Guarded {
-            stage,
-            count: 0,
-            verdict,
-        };
-    };
+    let stage = state.phase.stage();
+    plan.check()?;
+    let windows = plan.windows();
     let count = window_count(windows);
-    let verdict = let_in(state, stage, count, windows);
-    Guarded {
-        stage,
-        count,
-        verdict,
-    }
+    let_in(state, stage, count, windows)?;
+    Ok(Guarded { stage, count })
 }

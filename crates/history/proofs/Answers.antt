@@ -5,8 +5,8 @@ use mathlib.Core.Path.{◌≡◌, refl, sym, ap, ◌∙◌}
 use Prim.Native.Nat.{ℕ}
 use Rattle.refusal.specs.declared.Refusal.{Refusal}
 use Rattle.refusal.specs.declared.Refusal.TheVariants.{NoCallOpen, MachineStopped}
-use Rattle.refusal.specs.declared.Verdict.{Verdict}
-use Rattle.refusal.specs.declared.Verdict.TheVariants.{Accepted, Refused}
+use Rattle.refusal.specs.Verdict.{Verdict, accepted}
+use Rattle.std.specs.Prelude.{Ok, Err}
 use Rattle.verdict.proofs.First.{never_both}
 use Rattle.plan.specs.Plan.{Plan}
 use Rattle.accepted.specs.Accepted as plan
@@ -34,10 +34,10 @@ use Rattle.history.proofs.Cases.{tick_case, status_case}
 use Rattle.machine.proofs.FitsLaws.{Fits, fits_says}
 
 -- a step by itself refuses nothing
-pub step_accepts : (p : Plan) (s : State) (e : Event) → (move_of p s e).verdict ≡ Accepted
+pub step_accepts : (p : Plan) (s : State) (e : Event) → (move_of p s e).verdict ≡ accepted
 step_accepts p s (tick t) = of (tick_case (timetable_of p) s t)
   where
-    of : TickCase (timetable_of p) s t → (tick_move (timetable_of p) s t).verdict ≡ Accepted
+    of : TickCase (timetable_of p) s t → (tick_move (timetable_of p) s t).verdict ≡ accepted
     of (window_goes_on e due more to) = ap (λ (x : Answer). x.verdict) to
     of (window_ends e due last to) = ap (λ (x : Answer). x.verdict) to
     of (wrong_tick e wrong to) = ap (λ (x : Answer). x.verdict) to
@@ -45,7 +45,7 @@ step_accepts p s (tick t) = of (tick_case (timetable_of p) s t)
     of (tick_too_late stage cause e to) = ap (λ (x : Answer). x.verdict) to
 step_accepts p s (status word) = of (status_case p.windows s word)
   where
-    of : StatusCase p.windows s word → (status_move p.windows s word).verdict ≡ Accepted
+    of : StatusCase p.windows s word → (status_move p.windows s word).verdict ≡ accepted
     of (saved e zero to) = ap (λ (x : Answer). x.verdict) to
     of (programmed e zero to) = ap (λ (x : Answer). x.verdict) to
     of (runs_again e zero to) = ap (λ (x : Answer). x.verdict) to
@@ -54,32 +54,32 @@ step_accepts p s (status word) = of (status_case p.windows s word)
     of (status_too_late stage cause e to) = ap (λ (x : Answer). x.verdict) to
 
 -- a refusal hands back the state that came and asks for nothing, whatever came
-refused_back : (v : Verdict) (s : State) (to : Answer) (r : Refusal) → to.verdict ≡ Accepted → (if_accepted v s to).verdict ≡ Refused r
-    → if_accepted v s to ≡ refused_answer s (Refused r)
+refused_back : (v : Verdict) (s : State) (to : Answer) (r : Refusal) → to.verdict ≡ accepted → (if_accepted v s to).verdict ≡ Err r
+    → if_accepted v s to ≡ refused_answer s (Err r)
 unfolding if_accepted
-refused_back Accepted s to r fine e = absurd (never_both (sym fine ∙ e))
-refused_back (Refused x) s to r fine e = ap (refused_answer s) e
+refused_back (Ok _) s to r fine e = absurd (never_both (sym fine ∙ e))
+refused_back (Err x) s to r fine e = ap (refused_answer s) e
 
-pub refused_changes_nothing : (p : Plan) (s : State) (e : Event) (r : Refusal) → (answer_of p s e).verdict ≡ Refused r
-    → answer_of p s e ≡ refused_answer s (Refused r)
+pub refused_changes_nothing : (p : Plan) (s : State) (e : Event) (r : Refusal) → (answer_of p s e).verdict ≡ Err r
+    → answer_of p s e ≡ refused_answer s (Err r)
 unfolding tick_of status_of
 refused_changes_nothing p s (tick t) r e = refused_back (guard_of p s) s (tick_move (timetable_of p) s t) r (step_accepts p s (tick t)) e
 refused_changes_nothing p s (status word) r e = refused_back (status_verdict p s) s (status_move p.windows s word) r (step_accepts p s (status word)) e
 
 -- and leaves no trace
-no_trace : (h : History) (e : Event) (r : Refusal) → go_on h e (refused_answer h.state (Refused r)) ≡ h
+no_trace : (h : History) (e : Event) (r : Refusal) → go_on h e (refused_answer h.state (Err r)) ≡ h
 no_trace h (tick t) r = refl
 no_trace h (status word) r = refl
 
-pub refused_not_counted : (p : Plan) (h : History) (e : Event) (r : Refusal) → (answer_of p h.state e).verdict ≡ Refused r → next (machine_of p) h e ≡ h
+pub refused_not_counted : (p : Plan) (h : History) (e : Event) (r : Refusal) → (answer_of p h.state e).verdict ≡ Err r → next (machine_of p) h e ≡ h
 refused_not_counted p h e r refusal = ap (go_on h e) (refused_changes_nothing p h.state e r refusal) ∙ no_trace h e r
 
 module _ (p : Plan) (a : plan.AcceptedIf p) (s : State) (f : Fits p s) where
-  goes : {stage : Stage} → s.phase ≡ At stage → guard_of p s ≡ Accepted
+  goes : {stage : Stage} → s.phase ≡ At stage → guard_of p s ≡ accepted
   goes e = guard_accepted p s (all_accepted p a) ((fits_says p s).1 f) (ap is_stopped e)
 
   pub too_late : {stage : Stage} {cause : Cause} → s.phase ≡ Stopped stage cause → (e : Event)
-      → answer_of p s e ≡ refused_answer s (Refused MachineStopped)
+      → answer_of p s e ≡ refused_answer s (Err MachineStopped)
   too_late e (tick t) = tick_refused p s t MachineStopped (guard_stopped p s (all_accepted p a) ((fits_says p s).1 f) (ap is_stopped e))
   too_late e (status word) = status_refused p s word MachineStopped (guard_stopped p s (all_accepted p a) ((fits_says p s).1 f) (ap is_stopped e))
 
@@ -95,7 +95,7 @@ module _ (p : Plan) (a : plan.AcceptedIf p) (s : State) (f : Fits p s) where
       not_waiting : runs (At stage) ≡ false
       not_waiting = rw waits
 
-  pub unasked : s.phase ≡ At Running → (word : ℕ) → status_of p s word ≡ refused_answer s (Refused NoCallOpen)
+  pub unasked : s.phase ≡ At Running → (word : ℕ) → status_of p s word ≡ refused_answer s (Err NoCallOpen)
   unasked e word = status_unasked p s word (goes e) (ap runs e)
 
   -- a zero for each of the three calls

@@ -11,8 +11,8 @@ use native.Mathlib.Numerals.{add-one}
 use native.Mathlib.Omega.{arith}
 use lib.ListN.{length}
 use Rattle.refusal.specs.declared.Refusal.{Refusal}
-use Rattle.refusal.specs.declared.Verdict.{Verdict}
-use Rattle.refusal.specs.declared.Verdict.TheVariants.{Accepted, Refused}
+use Rattle.refusal.specs.Verdict.{Verdict, accepted}
+use Rattle.std.specs.Prelude.{Ok, Err}
 use Rattle.timeline.specs.Windows.{Holds}
 use Rattle.timeline.proofs.Ended.{none_ended, turn, window_lasts, window_ends as ends-one, ended_at_most}
 use Rattle.plan.specs.Plan.{Plan, window_count, owner_of, offset_of, budget_of}
@@ -96,7 +96,7 @@ module _ (p : Plan) (a : plan.AcceptedIf p) (h : History) (i : Inv p h) (c : Cal
   accepts : (e : Event) {to : Answer} → answer_of p h.state e ≡ to → CallsAreThePlans p (go_on h e to) → CallsAreThePlans p (next (machine_of p) h e)
   accepts e says calls = subst (λ (to : Answer). CallsAreThePlans p (go_on h e to)) (sym says) calls
 
-  refuses : (e : Event) {r : Refusal} → (answer_of p h.state e).verdict ≡ Refused r → CallsAreThePlans p (next (machine_of p) h e)
+  refuses : (e : Event) {r : Refusal} → (answer_of p h.state e).verdict ≡ Err r → CallsAreThePlans p (next (machine_of p) h e)
   refuses e {r} says = subst (CallsAreThePlans p) (sym (refused_not_counted p h e r says)) c
 
   tick_calls : (t : ℕ) → TickCase (timetable_of p) h.state t → CallsAreThePlans p (next (machine_of p) h (tick t))
@@ -107,7 +107,7 @@ module _ (p : Plan) (a : plan.AcceptedIf p) (h : History) (i : Inv p h) (c : Cal
       accepts (tick t) (on_tick p a h.state i.fit e t to)
       (so_far Running e
       ∙ ap (λ (s : ℕ). first_calls p (call_count 0 s)) (sym lasts)
-      ∙ ap (λ (phase : Phase). first_calls p (call_count (phase_words phase).stage (ended_after p (counted (tick t) Accepted (is_stopped phase) N)))) (sym e))
+      ∙ ap (λ (phase : Phase). first_calls p (call_count (phase_words phase).stage (ended_after p (counted (tick t) accepted (is_stopped phase) N)))) (sym e))
   tick_calls t (window_ends e due last to) =
       let at = (subst (FitsPhase p h.state) e i.fit).place in
       let holds = subst (Holds (offset_of p) (budget_of p) h.state.current.0) i.in_time at.holds in
@@ -168,9 +168,9 @@ module _ (p : Plan) (a : plan.AcceptedIf p) where
 
 -- no more ticks are taken than come
 counted_at_most : (t : ℕ) (v : Verdict) (stops : Bool) (N : ℕ) → counted (tick t) v stops N ≤ N + 1
-counted_at_most t Accepted true N = omega arith
-counted_at_most t Accepted false N = omega arith
-counted_at_most t (Refused r) stops N = omega arith
+counted_at_most t (Ok _) true N = omega arith
+counted_at_most t (Ok _) false N = omega arith
+counted_at_most t (Err r) stops N = omega arith
 
 taken_at_most : (m : Machine) (h : History) (events : List Event) → (since m h events).taken ≤ h.taken + length (ticks_of events)
 taken_at_most m h [] = omega arith

@@ -6,7 +6,8 @@ use mathlib.Core.Path.{◌≡◌, refl, sym, ap, ◌∙◌, subst}
 use Prim.Native.Nat.{ℕ, ◌+◌, ◌%◌}
 use native.Mathlib.Nat.{mod-eq_of_lt}
 use Rattle.refusal.specs.declared.Refusal.{Refusal}
-use Rattle.refusal.specs.declared.Verdict.TheVariants.{Accepted, Refused}
+use Rattle.refusal.specs.Verdict.{accepted}
+use Rattle.std.specs.Prelude.{Err}
 use Rattle.timeline.specs.Windows.{next_tick}
 use Rattle.timeline.proofs.Laws.{next_tick_lem, some_ticks}
 use Rattle.plan.specs.Plan.{Plan, frame_length}
@@ -79,14 +80,14 @@ module _ (p : Plan) (a : plan.AcceptedIf p) where
           talk = talk;
         })
 
-    refuses : (e : Event) {r : Refusal} → (answer_of p h.state e).verdict ≡ Refused r → Inv p (next (machine_of p) h e)
+    refuses : (e : Event) {r : Refusal} → (answer_of p h.state e).verdict ≡ Err r → Inv p (next (machine_of p) h e)
     refuses e {r} says = subst (Inv p) (sym (refused_not_counted p h e r says)) i
 
     tick_inv : (t : ℕ) → TickCase (timetable_of p) h.state t → Inv p (next (machine_of p) h (tick t))
     tick_inv t (window_goes_on e due more to) =
         accepts (tick t) (on_tick p a h.state i.fit e t to) to
         (next_due t h.taken (due ∙ i.in_time)
-        ∙ ap (λ (phase : Phase). counted (tick t) Accepted (is_stopped phase) h.taken % frame_length p) (sym e))
+        ∙ ap (λ (phase : Phase). counted (tick t) accepted (is_stopped phase) h.taken % frame_length p) (sym e))
         (subst (TalkOf p (onward (timetable_of p) h.state t) h.entries) (sym e) (subst (TalkOf p h.state h.entries) e i.talk))
     tick_inv t (window_ends e due last to) =
         accepts (tick t) (on_tick p a h.state i.fit e t to) to (next_due t h.taken (due ∙ i.in_time)) (h.entries, refl)

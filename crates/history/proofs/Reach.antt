@@ -9,7 +9,7 @@ use Prim.Native.Nat.{ℕ, zero, suc, ◌+◌, ◌-◌, ◌≤◌, ◌<◌}
 use native.Mathlib.Decide.{ℕ_discrete}
 use native.Mathlib.Omega.{arith}
 use Rattle.timeline.specs.Windows.{Holds, next_window, next_tick}
-use Rattle.timeline.proofs.Laws.{exactly_one, share_no_tick, holds_in_frame, next_starts, next_holds, next_is_window, next_tick_below, first_holds, some_ticks}
+use Rattle.timeline.proofs.Laws.{exactly_one, share_no_tick, holds_in_frame, next_starts, next_holds, next_is_window, next_below, first_holds, some_ticks}
 use Rattle.plan.specs.Plan.{Plan, frame_length, window_count, window_of, offset_of, budget_of}
 use Rattle.records.specs.Records.{end_of}
 use Rattle.accepted.specs.Accepted.{AcceptedIf}
@@ -107,7 +107,7 @@ module _ (p : Plan) (a : AcceptedIf p) (bound : ℕ) (long : frame_length p ≤ 
       (is_window : window < window_count p) (holds : Holds (offset_of p) (budget_of p) window (suc due)) where
     onward : next_tick (frame_length p) due ≡ suc due
     onward =
-        next_tick_below (frame_length p) due (omega (arith, holds_in_frame (follow p a) window (suc due) is_window holds)) ∙ omega arith
+        next_below (frame_length p) due (omega (arith, holds_in_frame (follow p a) window (suc due) is_window holds)) ∙ omega arith
 
     runs_next : ReachedWithin bound p (running w due) → ReachedWithin bound p (running window (suc due))
     runs_next there =

@@ -1,12 +1,11 @@
 -- What a host and a machine have said to each other since a cold start, by the machine's answers: the calls, the status words that
 -- answered them, and N, "the ticks taken" ("A stop changes the phase only; its tick isn't taken"; "Refused events change nothing and
 -- don't count in N").
-use Rattle.std.specs.Prelude.{Bool, cond, List, [], ◌∷◌, ℕ, ◌+◌}
-use Rattle.refusal.specs.declared.Verdict.{Verdict}
-use Rattle.refusal.specs.declared.Verdict.TheVariants.{Accepted, Refused}
+use Rattle.std.specs.Prelude.{Option, Some, None, Bool, cond, List, [], ◌∷◌, ℕ, ◌+◌, Ok, Err}
+use Rattle.refusal.specs.Verdict.{Verdict}
 use Rattle.plan.specs.Plan.{Plan}
 use Rattle.protocol.specs.declared.Call.{Call}
-use Rattle.protocol.specs.declared.Call.TheVariants.{None, SaveFor, SwapFor, ResumeFor}
+use Rattle.protocol.specs.declared.Call.TheVariants.{SaveFor, SwapFor, ResumeFor}
 use Rattle.protocol.specs.declared.CallWords.{CallWords}
 use Rattle.protocol.specs.Numbers.{no_call, save_for, swap_for, resume_for}
 use Rattle.protocol.specs.Phase.{is_stopped}
@@ -42,21 +41,21 @@ pub record History : Type 0 where
 
 -- a tick is taken if it is accepted and does not stop the machine
 abbrev pub counted : Event → Verdict → (stops : Bool) → ℕ → ℕ
-counted (tick t) Accepted stops taken = cond stops taken (taken + 1)
-counted (tick t) (Refused r) stops taken = taken
+counted (tick t) (Ok _) stops taken = cond stops taken (taken + 1)
+counted (tick t) (Err r) stops taken = taken
 counted (status word) verdict stops taken = taken
 
 -- a status that is accepted answers the call that is open
 abbrev pub heard : Event → Verdict → List Entry → List Entry
 heard (tick t) verdict entries = entries
-heard (status word) Accepted entries = answered word ∷ entries
-heard (status word) (Refused r) entries = entries
+heard (status word) (Ok _) entries = answered word ∷ entries
+heard (status word) (Err r) entries = entries
 
-abbrev pub said : Call → List Entry → List Entry
+abbrev pub said : Option Call → List Entry → List Entry
 said None entries = entries
-said (SaveFor q) entries = called (save_for q.0) ∷ entries
-said (SwapFor q) entries = called (swap_for q.0) ∷ entries
-said (ResumeFor q) entries = called (resume_for q.0) ∷ entries
+said (Some (SaveFor q)) entries = called (save_for q.0) ∷ entries
+said (Some (SwapFor q)) entries = called (swap_for q.0) ∷ entries
+said (Some (ResumeFor q)) entries = called (resume_for q.0) ∷ entries
 
 abbrev pub begin : Answer → History
 begin a = record { state = a.state; taken = 0; entries = said a.call [] }

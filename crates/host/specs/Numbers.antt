@@ -1,14 +1,15 @@
 -- What the C interface writes (document 01's table of refusals: number, place, host code): each answer begins with these three, three zeros where
 -- accepted (`verdict_words` of crate `wire`). After them, on a refusal, "lookups answer 0, region words all zero"; the core's answers already are.
 use Rattle.std.specs.Prelude.{List, [], ◌∷◌, ◌++◌, ℕ, get_or}
-use Rattle.lookup.specs.declared.Located.{Located}
+use Rattle.timeline.specs.declared.Located.{Located}
+use Rattle.records.specs.declared.WindowNo.{WindowNo}
 use Rattle.machine.specs.declared.RunAnswer.{RunAnswer}
 use Rattle.words.specs.declared.Pair.{Pair}
 use Rattle.words.specs.declared.Words.{Words}
 use Rattle.wire.specs.Answers.{verdict_words}
 
 -- then the window
-abbrev pub located_words : Located → List ℕ
+abbrev pub located_words : Located WindowNo → List ℕ
 located_words l = verdict_words l.verdict ++ (l.window.0 ∷ [])
 
 -- then slot by slot its two words

@@ -5,15 +5,13 @@ ghost use Rattle.state.specs.Start.{cold_of};
 ghost use Rattle.wire.specs.Answers.{answer_words};
 ghost use Rattle.in_words.specs.Events.{tick_in_words, status_in_words, left_words};
 
-use plan::Frame;
+use plan::{Frame, Plan};
 use state::{Answer, State};
 
 fn left(answer: Answer, words: [u32; 8]) -> [u32; 8]
     ensures { result ≡ left_words answer.verdict answer.state words }
 {
-    let verdict = answer.verdict;
-    let state = answer.state;
-    in_words::left(verdict, state, words)
+    in_words::left(answer.verdict, answer.state, words)
 }
 
 #[unsafe(no_mangle)]
@@ -27,9 +25,9 @@ pub extern "C" fn shillingnook_cold_start(
     ensures { let a = cold_of (plan_of (frame_of length) windows.now rows.now) in
         (answer.new ≡ answer_words a) × (state.new ≡ left_words a.verdict a.state state.old) }
 {
-    let frame = Frame { length };
+    let plan = Plan::new(Frame { length }, windows, rows);
     let words = *state;
-    let first = State::cold_start(frame, windows, rows);
+    let first = State::cold_start(&plan);
     *state = left(first, words);
     *answer = wire::answer_words(first);
 }
@@ -46,9 +44,9 @@ pub extern "C" fn shillingnook_tick(
     ensures { let a = tick_in_words (plan_of (frame_of length) windows.now rows.now) state.old tick in
         (answer.new ≡ answer_words a) × (state.new ≡ left_words a.verdict a.state state.old) }
 {
-    let frame = Frame { length };
+    let plan = Plan::new(Frame { length }, windows, rows);
     let words = *state;
-    let next = in_words::tick(words, frame, windows, rows, tick);
+    let next = in_words::tick(words, &plan, tick);
     *state = left(next, words);
     *answer = wire::answer_words(next);
 }
@@ -65,9 +63,9 @@ pub extern "C" fn shillingnook_status(
     ensures { let a = status_in_words (plan_of (frame_of length) windows.now rows.now) state.old status in
         (answer.new ≡ answer_words a) × (state.new ≡ left_words a.verdict a.state state.old) }
 {
-    let frame = Frame { length };
+    let plan = Plan::new(Frame { length }, windows, rows);
     let words = *state;
-    let next = in_words::status(words, frame, windows, rows, status);
+    let next = in_words::status(words, &plan, status);
     *state = left(next, words);
     *answer = wire::answer_words(next);
 }

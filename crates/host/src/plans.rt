@@ -7,39 +7,28 @@ ghost use Rattle.words.specs.Words.{words_of};
 ghost use Rattle.wire.specs.Answers.{verdict_words};
 ghost use Rattle.host.specs.Numbers.{located_words, region_words};
 
-use lookup::Located;
-use plan::Frame;
-use records::PartitionNo;
+use plan::{Frame, Plan};
+use records::{PartitionNo, WindowNo};
+use timeline::Located;
 use words::Words;
 
 #[tactic(auto, using(wire::proofs::AnswerLaws::begins))]
-fn located_words(located: Located) -> [u32; 4]
+fn located_words(located: Located<WindowNo>) -> [u32; 4]
     ensures { result ≡ located_words located }
 {
-    let verdict = located.verdict;
-    let said = wire::verdict_words(verdict);
-    [said[0], said[1], said[2], located.window.0]
+    let [number, place, code] = wire::verdict_words(located.verdict);
+    [number, place, code, located.window.0]
 }
 
 #[tactic(auto, using(wire::proofs::AnswerLaws::begins))]
 fn region_words(words: Words) -> [u32; 19]
     ensures { result ≡ region_words words }
 {
-    let verdict = words.verdict;
-    let said = wire::verdict_words(verdict);
-    let slots = words.slots;
-    let a = slots[0];
-    let b = slots[1];
-    let c = slots[2];
-    let d = slots[3];
-    let e = slots[4];
-    let f = slots[5];
-    let g = slots[6];
-    let h = slots[7];
+    let [number, place, code] = wire::verdict_words(words.verdict);
+    let [a, b, c, d, e, f, g, h] = words.slots;
     [
-        said[0], said[1], said[2], a.first, a.second, b.first, b.second, c.first, c.second,
-        d.first, d.second, e.first, e.second, f.first, f.second, g.first, g.second, h.first,
-        h.second,
+        number, place, code, a.first, a.second, b.first, b.second, c.first, c.second, d.first,
+        d.second, e.first, e.second, f.first, f.second, g.first, g.second, h.first, h.second,
     ]
 }
 
@@ -52,8 +41,8 @@ pub extern "C" fn shillingnook_check(
 )
     ensures { answer.new ≡ verdict_words (verdict_of (plan_of (frame_of length) windows.now rows.now)) }
 {
-    let frame = Frame { length };
-    *answer = wire::verdict_words(frame.check(windows, rows));
+    let plan = Plan::new(Frame { length }, windows, rows);
+    *answer = wire::verdict_words(plan.check());
 }
 
 #[unsafe(no_mangle)]
@@ -66,8 +55,8 @@ pub extern "C" fn shillingnook_lookup(
 )
     ensures { answer.new ≡ located_words (lookup_of (plan_of (frame_of length) windows.now rows.now) tick) }
 {
-    let frame = Frame { length };
-    *answer = located_words(lookup::lookup(frame, windows, rows, tick));
+    let plan = Plan::new(Frame { length }, windows, rows);
+    *answer = located_words(lookup::lookup(&plan, tick));
 }
 
 #[unsafe(no_mangle)]
@@ -80,7 +69,6 @@ pub extern "C" fn shillingnook_words(
 )
     ensures { answer.new ≡ region_words (words_of (plan_of (frame_of length) windows.now rows.now) partition) }
 {
-    let frame = Frame { length };
-    let words = region::words_of(frame, windows, rows, PartitionNo(partition));
-    *answer = region_words(words);
+    let plan = Plan::new(Frame { length }, windows, rows);
+    *answer = region_words(region::words_of(&plan, PartitionNo(partition)));
 }

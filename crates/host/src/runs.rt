@@ -6,7 +6,7 @@ ghost use Rattle.wire.specs.Answers.{verdict_words};
 ghost use Rattle.in_words.specs.Events.{left_words};
 ghost use Rattle.host.specs.Numbers.{counts_of};
 
-use plan::Frame;
+use plan::{Frame, Plan};
 
 #[unsafe(no_mangle)]
 pub extern "C" fn shillingnook_run(
@@ -25,12 +25,10 @@ pub extern "C" fn shillingnook_run(
         (answer.new ≡ verdict_words r.verdict) × (counts.new ≡ counts_of r)
         × (state.new ≡ left_words r.verdict r.state state.old) × (log.new ≡ log_of p ticks.now statuses.now log.old) }
 {
-    let frame = Frame { length };
+    let plan = Plan::new(Frame { length }, windows, rows);
     let words = *state;
-    let end = run::run(frame, windows, rows, ticks, statuses, log);
-    let verdict = end.verdict;
-    let last = end.state;
-    *state = in_words::left(verdict, last, words);
+    let end = run::run(&plan, ticks, statuses, log);
+    *state = in_words::left(end.verdict, end.state, words);
     *counts = [end.ticks as u64, end.statuses as u64, end.calls as u64];
-    *answer = wire::verdict_words(verdict);
+    *answer = wire::verdict_words(end.verdict);
 }

@@ -8,55 +8,50 @@ ghost use Rattle.switcher.specs.Switch.{tick_of, mark_saved_of, mark_swapped_of,
 ghost use Rattle.in_place.specs.InPlace.{told};
 
 use refusal::Verdict;
-use switcher::Switcher;
+use switcher::{Stepped, Switcher};
 
-// What a caller is told; `done` is the original's `switched` and `ok`.
+// What a caller is told; `done` is the original's `switched` and `ok`, false beside a refusal.
 #[derive(Clone, Copy)]
 pub struct Told {
     pub done: bool,
     pub verdict: Verdict,
 }
 
-pub fn tick(lent: &mut Switcher, t: u32) -> Told
-    ensures { (result ≡ told (tick_of lent.old t)) × (lent.new ≡ (tick_of lent.old t).state) }
+// Leaves the state that a step answers where it was lent, and tells the rest.
+fn stored(lent: &mut Switcher, stepped: Stepped) -> Told
+    ensures { (result ≡ told stepped) × (lent.new ≡ stepped.state) }
 {
-    let stepped = lent.tick(t);
     *lent = stepped.state;
     Told {
         done: stepped.done,
         verdict: stepped.verdict,
     }
+}
+
+pub fn tick(lent: &mut Switcher, t: u32) -> Told
+    ensures { (result ≡ told (tick_of lent.old t)) × (lent.new ≡ (tick_of lent.old t).state) }
+{
+    let stepped = lent.tick(t);
+    stored(lent, stepped)
 }
 
 pub fn mark_saved(lent: &mut Switcher) -> Told
     ensures { (result ≡ told (mark_saved_of lent.old)) × (lent.new ≡ (mark_saved_of lent.old).state) }
 {
     let stepped = lent.mark_saved();
-    *lent = stepped.state;
-    Told {
-        done: stepped.done,
-        verdict: stepped.verdict,
-    }
+    stored(lent, stepped)
 }
 
 pub fn mark_swapped(lent: &mut Switcher) -> Told
     ensures { (result ≡ told (mark_swapped_of lent.old)) × (lent.new ≡ (mark_swapped_of lent.old).state) }
 {
     let stepped = lent.mark_swapped();
-    *lent = stepped.state;
-    Told {
-        done: stepped.done,
-        verdict: stepped.verdict,
-    }
+    stored(lent, stepped)
 }
 
 pub fn mark_resumed(lent: &mut Switcher) -> Told
     ensures { (result ≡ told (mark_resumed_of lent.old)) × (lent.new ≡ (mark_resumed_of lent.old).state) }
 {
     let stepped = lent.mark_resumed();
-    *lent = stepped.state;
-    Told {
-        done: stepped.done,
-        verdict: stepped.verdict,
-    }
+    stored(lent, stepped)
 }

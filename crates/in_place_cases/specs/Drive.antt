@@ -4,7 +4,12 @@ use Rattle.std.specs.Prelude.{ℕ}
 use Rattle.switcher.specs.declared.Switcher.{Switcher}
 use Rattle.switcher.specs.declared.Stepped.{Stepped}
 use Rattle.switcher.specs.Switch.{tick_of, mark_saved_of, mark_swapped_of, mark_resumed_of}
+use Rattle.in_place.specs.declared.Told.{Told}
 use Rattle.in_place_cases.specs.declared.drive.Course.{Course}
+
+-- what was told and the state that was left, as the by-value step answers them
+abbrev pub whole : Told → Switcher → Stepped
+whole told left = record { state = left; done = told.done; verdict = told.verdict }
 
 abbrev pub said_saved : Switcher → ℕ → Stepped
 said_saved s t = mark_saved_of (tick_of s t).state

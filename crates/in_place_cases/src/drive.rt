@@ -1,7 +1,8 @@
 // One state, in one place, lent four times.
 ghost use Rattle.std.specs.Prelude.{◌≡◌};
-ghost use Rattle.in_place_cases.specs.Drive.{course_of};
+ghost use Rattle.in_place_cases.specs.Drive.{whole, course_of};
 
+use in_place::Told;
 use switcher::{Stepped, Switcher};
 
 // What each call told, with the state that it left.
@@ -13,35 +14,29 @@ pub struct Course {
     pub resumed: Stepped,
 }
 
+fn whole(told: Told, left: Switcher) -> Stepped
+    ensures { result ≡ whole told left }
+{
+    Stepped {
+        state: left,
+        done: told.done,
+        verdict: told.verdict,
+    }
+}
+
 // The calls of a switch, whatever each of them answers.
 pub fn driven(from: Switcher, t: u32) -> Course
     ensures { result ≡ course_of from t }
 {
     let mut lent = from;
     let told = in_place::tick(&mut lent, t);
-    let ticked = Stepped {
-        state: lent,
-        done: told.done,
-        verdict: told.verdict,
-    };
+    let ticked = whole(told, lent);
     let told = in_place::mark_saved(&mut lent);
-    let saved = Stepped {
-        state: lent,
-        done: told.done,
-        verdict: told.verdict,
-    };
+    let saved = whole(told, lent);
     let told = in_place::mark_swapped(&mut lent);
-    let swapped = Stepped {
-        state: lent,
-        done: told.done,
-        verdict: told.verdict,
-    };
+    let swapped = whole(told, lent);
     let told = in_place::mark_resumed(&mut lent);
-    let resumed = Stepped {
-        state: lent,
-        done: told.done,
-        verdict: told.verdict,
-    };
+    let resumed = whole(told, lent);
     Course {
         ticked,
         saved,

@@ -2,41 +2,36 @@
 #![tactic(auto)]
 
 ghost use Rattle.std.specs.Prelude.{◌≡◌};
-ghost use Rattle.plan.specs.Plan.{plan_of};
 ghost use Rattle.in_words.specs.Events.{strange, tick_in_words, status_in_words, left_words};
 
-use plan::Frame;
+use plan::Plan;
 use refusal::{Refusal, Verdict};
 use state::{Answer, State};
-use wire::Read;
 
 // What words that are no state get: the plan's own refusal comes first.
 #[tactic(auto, unfolding(refusal::specs::First::refuse_if))]
-fn strange(frame: Frame, windows: &[u32], rows: &[u32]) -> Answer
-    ensures { result ≡ strange (plan_of frame windows.now rows.now) }
+fn strange(plan: &Plan<'_>) -> Answer
+    ensures { result ≡ strange plan.now }
 {
-    let verdict = frame.check(windows, rows);
-    let verdict = refusal::or_refuse(verdict, false, Refusal::StrangeState);
+    let verdict = refusal::or_refuse(plan.check(), false, Refusal::StrangeState);
     State::zeros().refused(verdict)
 }
 
-pub fn tick(words: [u32; 8], frame: Frame, windows: &[u32], rows: &[u32], t: u32) -> Answer
-    ensures { result ≡ tick_in_words (plan_of frame windows.now rows.now) words t }
+pub fn tick(words: [u32; 8], plan: &Plan<'_>, t: u32) -> Answer
+    ensures { result ≡ tick_in_words plan.now words t }
 {
-    let read = wire::read_state(words);
-    match read {
-        Read::NoState => strange(frame, windows, rows),
-        Read::Is(state) => switch::tick(state, frame, windows, rows, t),
+    match wire::read_state(words) {
+        Some(state) => switch::tick(state, plan, t),
+        None => strange(plan),
     }
 }
 
-pub fn status(words: [u32; 8], frame: Frame, windows: &[u32], rows: &[u32], status: u32) -> Answer
-    ensures { result ≡ status_in_words (plan_of frame windows.now rows.now) words status }
+pub fn status(words: [u32; 8], plan: &Plan<'_>, status: u32) -> Answer
+    ensures { result ≡ status_in_words plan.now words status }
 {
-    let read = wire::read_state(words);
-    match read {
-        Read::NoState => strange(frame, windows, rows),
-        Read::Is(state) => switch::status(state, frame, windows, rows, status),
+    match wire::read_state(words) {
+        Some(state) => switch::status(state, plan, status),
+        None => strange(plan),
     }
 }
 
@@ -45,7 +40,7 @@ pub fn status(words: [u32; 8], frame: Frame, windows: &[u32], rows: &[u32], stat
 pub fn left(verdict: Verdict, state: State, words: [u32; 8]) -> [u32; 8]
     ensures { result ≡ left_words verdict state words }
 {
-    let Verdict::Accepted = verdict else {
+    let Ok(()) = verdict else {
         return words;
     };
     wire::state_words(state)

@@ -6,7 +6,7 @@ use mathlib.Core.Path.{◌≡◌, sym, ap, ◌∙◌}
 use Prim.Native.Nat.{ℕ, ◌+◌}
 use borrow.Author.Tests.{eq-eqb, ne_eqb}
 use Rattle.refusal.specs.declared.Refusal.TheVariants.{NoCallOpen}
-use Rattle.refusal.specs.declared.Verdict.TheVariants.{Refused}
+use Rattle.std.specs.Prelude.{Err}
 use Rattle.refusal.proofs.Tests.{chosen, passed}
 use Rattle.timeline.specs.Windows.{next_tick}
 use Rattle.records.specs.Records.{nth_window, end_of}
@@ -84,7 +84,7 @@ module _ (windows : List ℕ) (s : State) (word : ℕ) where
     unfolding status_at
     at_bad waits bad = chosen _ _ waits ∙ reply_bad bad
 
-    pub at_unasked : call_open stage ≡ false → status_at windows s stage word ≡ refused_answer s (Refused NoCallOpen)
+    pub at_unasked : call_open stage ≡ false → status_at windows s stage word ≡ refused_answer s (Err NoCallOpen)
     unfolding status_at
     at_unasked runs = passed _ _ runs
 

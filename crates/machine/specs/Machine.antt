@@ -2,7 +2,7 @@
 -- place": "a refusal hands back the state it got; ... no call asked").
 use Rattle.std.specs.Prelude.{ℕ}
 use Rattle.refusal.specs.declared.Refusal.TheVariants.{NoCallOpen}
-use Rattle.refusal.specs.declared.Verdict.{Verdict}
+use Rattle.refusal.specs.Verdict.{Verdict}
 use Rattle.refusal.specs.First.{refuse_if, or_else}
 use Rattle.plan.specs.Plan.{Plan}
 use Rattle.protocol.specs.Phase.{runs}

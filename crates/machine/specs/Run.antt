@@ -1,9 +1,8 @@
 -- A run (document 01, "The machine"): it "takes the next status if, and only if, the last answer left a call open, else the next tick; it ends when stopped
 -- or the list it needs is used up". It is defined from any state.
-use Rattle.std.specs.Prelude.{true, false, cond, List, ℕ, zero, suc, ◌+◌, ◌-◌, leb, length, get_or}
+use Rattle.std.specs.Prelude.{cond, Option, Some, None, List, ℕ, zero, suc, ◌+◌, ◌-◌, leb, length, get_or}
 use Rattle.refusal.specs.declared.Refusal.TheVariants.{LogTooShort}
-use Rattle.refusal.specs.declared.Verdict.{Verdict}
-use Rattle.refusal.specs.declared.Verdict.TheVariants.{Accepted}
+use Rattle.refusal.specs.Verdict.{Verdict, accepted}
 use Rattle.refusal.specs.First.{refuse_if, or_else}
 use Rattle.verdict.specs.First.{unless_refused}
 use Rattle.plan.specs.Plan.{Plan}
@@ -17,28 +16,25 @@ use Rattle.machine.specs.Machine.{tick_of, status_of}
 use Rattle.machine.specs.declared.Course.{Course}
 use Rattle.machine.specs.declared.RunAnswer.{RunAnswer}
 
--- nothing is left to take
-abbrev pub end_of_run : Course → Course
-end_of_run c = record { state = c.state; call = c.call; ticks = c.ticks; statuses = c.statuses; going = false }
-
 -- a tick or a status was taken
 abbrev pub took : Answer → (ticks statuses : ℕ) → Course
-took a ticks statuses = record { state = a.state; call = a.call; ticks = ticks; statuses = statuses; going = true }
+took a ticks statuses = record { state = a.state; call = a.call; ticks = ticks; statuses = statuses }
 
 -- the next tick, if there is one
-unfoldable pub tick_turn : Plan → List ℕ → Course → Course
+unfoldable pub tick_turn : Plan → List ℕ → Course → Option Course
 tick_turn p ticks c =
-    cond (leb (length ticks) c.ticks) (end_of_run c) (took (tick_of p c.state (get_or ticks c.ticks 0)) (c.ticks + 1) c.statuses)
+    cond (leb (length ticks) c.ticks) None (Some (took (tick_of p c.state (get_or ticks c.ticks 0)) (c.ticks + 1) c.statuses))
 
 -- the next status, if there is one
-unfoldable pub status_turn : Plan → List ℕ → Course → Course
+unfoldable pub status_turn : Plan → List ℕ → Course → Option Course
 status_turn p statuses c =
-    cond (leb (length statuses) c.statuses) (end_of_run c)
-    (took (status_of p c.state (get_or statuses c.statuses 0)) c.ticks (c.statuses + 1))
+    cond (leb (length statuses) c.statuses) None
+    (Some (took (status_of p c.state (get_or statuses c.statuses 0)) c.ticks (c.statuses + 1)))
 
-unfoldable pub turn : Plan → (ticks statuses : List ℕ) → Course → Course
+-- nothing once it is stopped
+unfoldable pub turn : Plan → (ticks statuses : List ℕ) → Course → Option Course
 turn p ticks statuses c =
-    cond (is_stopped c.state.phase) (end_of_run c) (cond (asks c.call) (status_turn p statuses c) (tick_turn p ticks c))
+    cond (is_stopped c.state.phase) None (cond (asks c.call) (status_turn p statuses c) (tick_turn p ticks c))
 
 -- how far a run is, with its log
 pub record Progress : Type 0 where
@@ -55,18 +51,20 @@ with_logged g c =
     let call = g.course.call in
     progress c (calls_logged g.log g.calls call) (logged g.log g.calls call)
 
--- the call goes into the log, then the next turn is taken
-abbrev pub onward : Plan → (ticks statuses : List ℕ) → Progress → Progress
-onward p ticks statuses g = with_logged g (turn p ticks statuses g.course)
+-- on from what a turn took, or the end, where it took nothing
+abbrev pub on_or_end : Option Course → (Course → Progress) → (end : Progress) → Progress
+on_or_end None on end = end
+on_or_end (Some c) on end = on c
 
--- while something is taken, but not more often than so
+-- the call goes into the log, then the next turn is taken, while there is one, but not more often than so
 unfoldable pub go_on : Plan → (ticks statuses : List ℕ) → (turns : ℕ) → Progress → Progress
 go_on p ticks statuses zero g = g
-go_on p ticks statuses (suc turns) g = cond g.course.going (go_on p ticks statuses turns (onward p ticks statuses g)) g
+go_on p ticks statuses (suc turns) g =
+    on_or_end (turn p ticks statuses g.course) (λ c. go_on p ticks statuses turns (with_logged g c)) (with_logged g g.course)
 
 -- how many turns there can be: one for each tick and each status that is left, and the last, which takes nothing
 abbrev pub left : (ticks statuses : List ℕ) → Course → ℕ
-left ticks statuses c = length ticks - c.ticks + (length statuses - c.statuses) + cond c.going 1 0
+left ticks statuses c = suc (length ticks - c.ticks + (length statuses - c.statuses))
 
 abbrev pub ended : Progress → RunAnswer
 ended g =
@@ -75,7 +73,7 @@ ended g =
       ticks = g.course.ticks;
       statuses = g.course.statuses;
       calls = g.calls;
-      verdict = Accepted;
+      verdict = accepted;
     }
 
 -- "a refused run, three zeros"

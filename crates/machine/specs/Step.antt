@@ -1,8 +1,7 @@
 -- What one tick or one status does (document 01, "The machine"). It asks nothing of the state: a stopped machine stays as it is and so does
 -- one that runs when a status comes, which is what the refusals 14 and 13 make of them.
-use Rattle.std.specs.Prelude.{Bool, true, false, cond, List, ℕ, ◌+◌, eqb}
+use Rattle.std.specs.Prelude.{Some, Bool, true, false, cond, List, ℕ, ◌+◌, eqb, Err}
 use Rattle.refusal.specs.declared.Refusal.TheVariants.{NoCallOpen}
-use Rattle.refusal.specs.declared.Verdict.TheVariants.{Refused}
 use Rattle.timeline.specs.Windows.{next_window, next_tick}
 use Rattle.records.specs.declared.WindowNo.{WindowNo}
 use Rattle.plan.specs.Plan.{Plan, frame_length, window_count}
@@ -37,15 +36,15 @@ last_tick windows w t = eqb (t + 1) (end_of (nth_window windows w.0))
 -- "SaveCtx, target is the next window (0 after the last), mark false, asks save(owner of current)"
 abbrev pub save : ℕ → List ℕ → State → Answer
 save count windows s =
-    moved (asked s SaveCtx (window_no (next_window count s.current.0)) false) (SaveFor (owner windows s.current))
+    moved (asked s SaveCtx (window_no (next_window count s.current.0)) false) (Some (SaveFor (owner windows s.current)))
 
 -- "to ProgramRegions, asks swap(owner of target)"
 abbrev pub swap : List ℕ → State → Answer
-swap windows s = moved (asked s ProgramRegions s.target s.swapped) (SwapFor (owner windows s.target))
+swap windows s = moved (asked s ProgramRegions s.target s.swapped) (Some (SwapFor (owner windows s.target)))
 
 -- "to Resume, mark true, asks resume(owner of target)"
 abbrev pub resume : List ℕ → State → Answer
-resume windows s = moved (asked s Resume s.target true) (ResumeFor (owner windows s.target))
+resume windows s = moved (asked s Resume s.target true) (Some (ResumeFor (owner windows s.target)))
 
 -- "Tick, Running, t = due"
 unfoldable pub tick_taken : Timetable → State → ℕ → Answer
@@ -79,7 +78,7 @@ reply_at windows s stage word = cond (eqb word 0) (zero_at windows s stage) (sto
 
 -- "Status in Running: refusal 13"
 unfoldable pub status_at : List ℕ → State → Stage → ℕ → Answer
-status_at windows s stage word = cond (call_open stage) (reply_at windows s stage word) (refused_answer s (Refused NoCallOpen))
+status_at windows s stage word = cond (call_open stage) (reply_at windows s stage word) (refused_answer s (Err NoCallOpen))
 
 -- what a status does in each phase: "Refused events change nothing"
 unfoldable pub status_in : List ℕ → State → Phase → ℕ → Answer

@@ -6,17 +6,17 @@ use protocol::{Call, Stage};
 use refusal::Verdict;
 use state::State;
 
-// The verdict on a plan and a state, with what the step goes by.
+// What the step goes by, of a plan and a state that are let in.
 #[derive(Clone, Copy)]
 pub struct Guarded {
-    // where the machine is, or was when it stopped
+    // where the machine is
     pub stage: Stage,
-    // how many windows an accepted plan has; 0 for a refused one
+    // how many windows the plan has
     pub count: u32,
-    pub verdict: Verdict,
 }
 
-// The end state of a run, how many ticks and statuses were used, the one that stopped it included, and how many calls were written.
+// The end state of a run, how many ticks and statuses were used, the one that stopped it included, and how many calls were written; a state of zeros and three zeros
+// where it was refused (document 01), so no `Result`.
 #[derive(Clone, Copy)]
 pub struct RunAnswer {
     pub state: State,
@@ -26,12 +26,11 @@ pub struct RunAnswer {
     pub verdict: Verdict,
 }
 
-// How far a run is: the state and the call of the last answer, how many ticks and statuses were taken, and whether one was taken last. No public function takes one.
+// How far a run is: the state and the call of the last answer, and how many ticks and statuses were taken. No public function takes one.
 #[derive(Clone, Copy)]
 pub struct Course {
     pub state: State,
-    pub call: Call,
+    pub call: Option<Call>,
     pub ticks: usize,
     pub statuses: usize,
-    pub going: bool,
 }

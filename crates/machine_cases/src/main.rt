@@ -3,9 +3,9 @@
 // mark; then the call's two words.
 #![tactic(auto)]
 
-use output::{end, put, put_flag, put_phase, put_verdict, say};
-use plan::Frame;
-use protocol::{CallWords, Cause, Phase, Stage};
+use output::Numbers;
+use plan::{Frame, Plan};
+use protocol::{Cause, Phase, Stage, call_words};
 use records::WindowNo;
 use state::{Answer, State};
 use std::io;
@@ -15,146 +15,116 @@ const FRAME: Frame = Frame { length: 50 };
 
 const FRAME_A: [u32; 12] = [0, 0, 10, 1, 10, 20, 0, 30, 5, 2, 35, 15];
 
-fn put_state(rt: &impl Print, state: State) -> io::Result<()> {
-    let phase = state.phase;
-    put_phase(rt, phase.words())?;
-    put(rt, state.current.0)?;
-    put(rt, state.target.0)?;
-    put(rt, state.due)?;
-    put_flag(rt, state.swapped)
-}
-
-fn put_call(rt: &impl Print, words: CallWords) -> io::Result<()> {
-    put(rt, words.number)?;
-    put(rt, words.partition)
-}
-
-fn show(rt: &impl Print, answer: Answer) -> io::Result<()> {
-    let verdict = answer.verdict;
+fn show(rt: &impl Print, name: &str, answer: Answer) -> io::Result<()> {
     let state = answer.state;
-    let call = answer.call;
-    put_verdict(rt, verdict)?;
-    put_state(rt, state)?;
-    put_call(rt, call.words())?;
-    end(rt)
+    println!(rt;
+        "{name}: {} {} {} {} {} {} {}",
+        Numbers(answer.verdict),
+        Numbers(state.phase.words()),
+        state.current.0,
+        state.target.0,
+        state.due,
+        u32::from(state.swapped),
+        Numbers(call_words(answer.call))
+    )
 }
 
-fn show_tick(rt: &impl Print, name: &[u8], state: State, t: u32) -> io::Result<()> {
-    say(rt, name)?;
-    show(rt, tick(state, FRAME, &FRAME_A, &[], t))
-}
-
-fn show_status(rt: &impl Print, name: &[u8], state: State, word: u32) -> io::Result<()> {
-    say(rt, name)?;
-    show(rt, status(state, FRAME, &FRAME_A, &[], word))
-}
-
-fn placed(phase: Phase, current: u32, target: u32, due: u32, swapped: bool) -> State {
+fn running(window: u32, due: u32) -> State {
     State {
-        current: WindowNo(current),
-        target: WindowNo(target),
+        current: WindowNo(window),
+        target: WindowNo(window),
         due,
-        swapped,
-        phase,
+        swapped: true,
+        phase: Phase::At(Stage::Running),
     }
 }
 
-fn running(current: u32, due: u32) -> State {
-    placed(Phase::At(Stage::Running), current, current, due, true)
+// The switch from window 0 to window 1.
+fn switching(stage: Stage) -> State {
+    State {
+        current: WindowNo(0),
+        target: WindowNo(1),
+        due: 10,
+        swapped: stage == Stage::Resume,
+        phase: Phase::At(stage),
+    }
 }
 
-fn switching(stage: Stage, current: u32, target: u32, due: u32, swapped: bool) -> State {
-    placed(Phase::At(stage), current, target, due, swapped)
+fn stopped_by(t: u32) -> State {
+    State {
+        phase: Phase::Stopped(Stage::Running, Cause::WrongTick(t)),
+        ..running(1, 10)
+    }
 }
 
-fn stopped(stage: Stage, cause: Cause) -> State {
-    placed(Phase::Stopped(stage, cause), 1, 1, 10, true)
+fn ticks(rt: &impl Print, a: &Plan<'_>) -> io::Result<()> {
+    for (name, state, t) in [
+        ("the due tick", running(0, 8), 8),
+        ("the last tick of window 0", running(0, 9), 9),
+        ("the last tick of the frame", running(3, 49), 49),
+        ("a wrong tick", running(0, 8), 9),
+        ("a tick in a switch", switching(Stage::SaveCtx), 10),
+    ] {
+        show(rt, name, tick(state, a, t))?;
+    }
+    Ok(())
 }
 
-fn ticks(rt: &impl Print) -> io::Result<()> {
-    show_tick(rt, b"the due tick:", running(0, 8), 8)?;
-    show_tick(rt, b"the last tick of window 0:", running(0, 9), 9)?;
-    show_tick(rt, b"the last tick of the frame:", running(3, 49), 49)?;
-    show_tick(rt, b"a wrong tick:", running(0, 8), 9)?;
-    show_tick(
-        rt,
-        b"a tick in a switch:",
-        switching(Stage::SaveCtx, 0, 1, 10, false),
-        10,
-    )
+fn statuses(rt: &impl Print, a: &Plan<'_>) -> io::Result<()> {
+    for (name, state, word) in [
+        ("zero for the save", switching(Stage::SaveCtx), 0),
+        ("zero for the swap", switching(Stage::ProgramRegions), 0),
+        ("zero for the resume", switching(Stage::Resume), 0),
+        ("seven for the swap", switching(Stage::ProgramRegions), 7),
+        ("13, a status in Running", running(0, 8), 0),
+    ] {
+        show(rt, name, status(state, a, word))?;
+    }
+    Ok(())
 }
 
-fn statuses(rt: &impl Print) -> io::Result<()> {
-    show_status(
-        rt,
-        b"zero for the save:",
-        switching(Stage::SaveCtx, 0, 1, 10, false),
-        0,
-    )?;
-    show_status(
-        rt,
-        b"zero for the swap:",
-        switching(Stage::ProgramRegions, 0, 1, 10, false),
-        0,
-    )?;
-    show_status(
-        rt,
-        b"zero for the resume:",
-        switching(Stage::Resume, 0, 1, 10, true),
-        0,
-    )?;
-    show_status(
-        rt,
-        b"seven for the swap:",
-        switching(Stage::ProgramRegions, 0, 1, 10, false),
-        7,
-    )?;
-    show_status(rt, b"13, a status in Running:", running(0, 8), 0)
+fn too_late(rt: &impl Print, a: &Plan<'_>) -> io::Result<()> {
+    show(rt, "14, a tick", tick(stopped_by(12), a, 10))?;
+    show(rt, "14, a status", status(stopped_by(12), a, 0))
 }
 
-fn too_late(rt: &impl Print) -> io::Result<()> {
-    show_tick(
-        rt,
-        b"14, a tick:",
-        stopped(Stage::Running, Cause::WrongTick(12)),
-        10,
-    )?;
-    show_status(
-        rt,
-        b"14, a status:",
-        stopped(Stage::Running, Cause::WrongTick(12)),
-        0,
-    )
+fn strange_at_tick(rt: &impl Print, a: &Plan<'_>) -> io::Result<()> {
+    let over_a_window = State {
+        target: WindowNo(2),
+        due: 30,
+        ..switching(Stage::SaveCtx)
+    };
+    for (name, state) in [
+        ("17, window 4", running(4, 50)),
+        ("17, due before the window", running(1, 9)),
+        ("17, due past the window", running(0, 10)),
+        ("17, a switch over a window", over_a_window),
+    ] {
+        show(rt, name, tick(state, a, state.due))?;
+    }
+    Ok(())
 }
 
-fn strange(rt: &impl Print) -> io::Result<()> {
-    show_tick(rt, b"17, window 4:", running(4, 50), 50)?;
-    show_tick(rt, b"17, due before the window:", running(1, 9), 9)?;
-    show_tick(rt, b"17, due past the window:", running(0, 10), 10)?;
-    show_tick(
-        rt,
-        b"17, a switch over a window:",
-        switching(Stage::SaveCtx, 0, 2, 30, false),
-        30,
-    )?;
-    show_status(
-        rt,
-        b"17, swapped before the swap:",
-        switching(Stage::SaveCtx, 0, 1, 10, true),
-        0,
-    )?;
-    show_status(
-        rt,
-        b"17 before 14:",
-        stopped(Stage::Running, Cause::WrongTick(10)),
-        0,
-    )?;
-    show_status(rt, b"17 before 13:", running(0, 10), 0)
+fn strange_at_status(rt: &impl Print, a: &Plan<'_>) -> io::Result<()> {
+    let swapped = State {
+        swapped: true,
+        ..switching(Stage::SaveCtx)
+    };
+    for (name, state) in [
+        ("17, swapped before the swap", swapped),
+        ("17 before 14", stopped_by(10)),
+        ("17 before 13", running(0, 10)),
+    ] {
+        show(rt, name, status(state, a, 0))?;
+    }
+    Ok(())
 }
 
 fn main(rt: HostRuntime) -> io::Result<()> {
-    ticks(&rt)?;
-    statuses(&rt)?;
-    too_late(&rt)?;
-    strange(&rt)
+    let a = Plan::new(FRAME, &FRAME_A, &[]);
+    ticks(&rt, &a)?;
+    statuses(&rt, &a)?;
+    too_late(&rt, &a)?;
+    strange_at_tick(&rt, &a)?;
+    strange_at_status(&rt, &a)
 }

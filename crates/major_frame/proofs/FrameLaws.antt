@@ -11,8 +11,8 @@ use borrow.Author.Tests.{eq-eqb, ne_eqb}
 use lib.Dec.{eqb}
 use Rattle.refusal.specs.declared.Refusal.{Refusal}
 use Rattle.refusal.specs.declared.Refusal.TheVariants.{ZeroBudget, WrongStart, WrongLength, TickPastFrame}
-use Rattle.refusal.specs.declared.Verdict.{Verdict}
-use Rattle.refusal.specs.declared.Verdict.TheVariants.{Accepted, Refused}
+use Rattle.refusal.specs.Verdict.{Verdict, accepted}
+use Rattle.std.specs.Prelude.{Err}
 use Rattle.refusal.specs.First.{refuse_if, or_else}
 use Rattle.verdict.specs.First.{first_fault, FirstAt}
 use Rattle.verdict.proofs.First.{refuses_if, fault_found, own_refusal, both_accept, one_refuses, first_refuses, refuses_first, each_accepts, all_accept, goes_on, stops, ends}
@@ -29,10 +29,10 @@ abbrev pub verdict_from : MajorFrame → ℕ → Verdict
 verdict_from f i = or_else (first_fault (window_test f) i (4 - i)) (length_test f)
 
 module _ (f : MajorFrame) where
-  pub check_goes_on : (i : ℕ) → i < 4 → window_test f i ≡ Accepted → verdict_from f i ≡ verdict_from f (i + 1)
+  pub check_goes_on : (i : ℕ) → i < 4 → window_test f i ≡ accepted → verdict_from f i ≡ verdict_from f (i + 1)
   check_goes_on i h e = rw (goes_on (window_test f) 4 i h e)
 
-  pub check_stops : (i : ℕ) (r : Refusal) → i < 4 → window_test f i ≡ Refused r → verdict_from f i ≡ Refused r
+  pub check_stops : (i : ℕ) (r : Refusal) → i < 4 → window_test f i ≡ Err r → verdict_from f i ≡ Err r
   unfolding or_else
   check_stops i r h e = rw (stops (window_test f) 4 i r h e)
 
@@ -52,25 +52,25 @@ four P a b c d (suc (suc (suc zero))) h = d
 four P a b c d (suc (suc (suc (suc i)))) h = absurd (omega arith)
 
 -- the tests of a window pass exactly if it is as it should be
-window_accepted : (i start offset budget : ℕ) → (window_fault i start offset budget ≡ Accepted) ↔ ((0 < budget) × (offset ≡ start))
+window_accepted : (i start offset budget : ℕ) → (window_fault i start offset budget ≡ accepted) ↔ ((0 < budget) × (offset ≡ start))
 unfolding window_fault
 window_accepted i start offset budget = simp (both_accept, refuses_if, equal, positive) Iff.rfl
 
 module _ (f : MajorFrame) where
-  pub test_accepted : (i : ℕ) → (window_test f i ≡ Accepted) ↔ ((0 < budget_at f i) × (offset_at f i ≡ start_of f i))
+  pub test_accepted : (i : ℕ) → (window_test f i ≡ accepted) ↔ ((0 < budget_at f i) × (offset_at f i ≡ start_of f i))
   unfolding window_test
   test_accepted i = window_accepted i (start_of f i) (offset_at f i) (budget_at f i)
 
   -- and they refuse for one of two reasons
-  pub budget_refused : (i : ℕ) → budget_at f i ≡ 0 → window_test f i ≡ Refused (ZeroBudget i)
+  pub budget_refused : (i : ℕ) → budget_at f i ≡ 0 → window_test f i ≡ Err (ZeroBudget i)
   unfolding window_test window_fault or_else refuse_if
   budget_refused i e = rw (eq-eqb (budget_at f i) 0 e)
 
-  pub start_refused : (i : ℕ) → 0 < budget_at f i → (offset_at f i ≡ start_of f i → ⊥) → window_test f i ≡ Refused (WrongStart i)
+  pub start_refused : (i : ℕ) → 0 < budget_at f i → (offset_at f i ≡ start_of f i → ⊥) → window_test f i ≡ Err (WrongStart i)
   unfolding window_test window_fault or_else refuse_if
   start_refused i h other = rw ((positive (budget_at f i)).1 h, ne_eqb (offset_at f i) (start_of f i) other)
 
-  pub window_refused : (P : Refusal → Type 0) (i : ℕ) (r : Refusal) → window_test f i ≡ Refused r
+  pub window_refused : (P : Refusal → Type 0) (i : ℕ) (r : Refusal) → window_test f i ≡ Err r
       → (budget_at f i ≡ 0 → P (ZeroBudget i))
       → (0 < budget_at f i → (offset_at f i ≡ start_of f i → ⊥) → P (WrongStart i))
       → P r
@@ -82,20 +82,20 @@ module _ (f : MajorFrame) where
       (other-start ((positive _).0 ((refuses_if _ _).0 q.0)) ((not_same _ _).0 (fault_found _ _ r q.1))))
       (one_refuses _ _ r e)
 
-  pub length_accepted : (length_test f ≡ Accepted) ↔ (win_end f 3 ≡ f.frame_len)
+  pub length_accepted : (length_test f ≡ accepted) ↔ (win_end f 3 ≡ f.frame_len)
   unfolding length_test
   length_accepted = simp (refuses_if, equal) Iff.rfl
 
-  pub length_refused : (win_end f 3 ≡ f.frame_len → ⊥) → length_test f ≡ Refused (WrongLength 3)
+  pub length_refused : (win_end f 3 ≡ f.frame_len → ⊥) → length_test f ≡ Err (WrongLength 3)
   unfolding length_test refuse_if
   length_refused h = rw (ne_eqb (win_end f 3) f.frame_len h)
 
-  pub length_refuses : (r : Refusal) → length_test f ≡ Refused r → (WrongLength 3 ≡ r) × (win_end f 3 ≡ f.frame_len → ⊥)
+  pub length_refuses : (r : Refusal) → length_test f ≡ Err r → (WrongLength 3 ≡ r) × (win_end f 3 ≡ f.frame_len → ⊥)
   unfolding length_test
   length_refuses r e = (own_refusal _ _ r e, (not_same _ _).0 (fault_found _ _ r e))
 
   -- the check accepts exactly if `frame_inv` holds
-  pub accepted_inv : frame_verdict f ≡ Accepted → FrameInv f
+  pub accepted_inv : frame_verdict f ≡ accepted → FrameInv f
   unfolding frame_verdict
   accepted_inv e =
       let p = (both_accept (first_fault (window_test f) 0 4) (length_test f)).0 e in
@@ -112,7 +112,7 @@ module _ (f : MajorFrame) where
         end_3 = length_accepted.0 p.1;
       }
 
-  pub inv_accepted : FrameInv f → frame_verdict f ≡ Accepted
+  pub inv_accepted : FrameInv f → frame_verdict f ≡ accepted
   unfolding frame_verdict first_fault or_else
   inv_accepted h =
       rw (
@@ -124,19 +124,19 @@ module _ (f : MajorFrame) where
       )
 
   -- a refusal is the first in document 01's order: a window's, and none before it; or every window passes, and 5
-  pub refused_first : (r : Refusal) → frame_verdict f ≡ Refused r
-      → ((i : ℕ) × FirstAt (window_test f) 0 4 r i) ⊎ (((i : ℕ) → i < 4 → window_test f i ≡ Accepted) × (length_test f ≡ Refused r))
+  pub refused_first : (r : Refusal) → frame_verdict f ≡ Err r
+      → ((i : ℕ) × FirstAt (window_test f) 0 4 r i) ⊎ (((i : ℕ) → i < 4 → window_test f i ≡ accepted) × (length_test f ≡ Err r))
   unfolding frame_verdict
   refused_first r e =
       ⊎_map (first_refuses (window_test f) 0 4 r)
       (λ p. (λ i h. each_accepts (window_test f) 0 4 p.0 i (omega arith) (omega arith), p.1))
       (one_refuses (first_fault (window_test f) 0 4) (length_test f) r e)
 
-  pub first_refused : (r : Refusal) (i : ℕ) → FirstAt (window_test f) 0 4 r i → frame_verdict f ≡ Refused r
+  pub first_refused : (r : Refusal) (i : ℕ) → FirstAt (window_test f) 0 4 r i → frame_verdict f ≡ Err r
   unfolding frame_verdict or_else
   first_refused r i h = rw (refuses_first (window_test f) 0 4 r i h)
 
-  pub last_refused : (r : Refusal) → ((i : ℕ) → i < 4 → window_test f i ≡ Accepted) → length_test f ≡ Refused r → frame_verdict f ≡ Refused r
+  pub last_refused : (r : Refusal) → ((i : ℕ) → i < 4 → window_test f i ≡ accepted) → length_test f ≡ Err r → frame_verdict f ≡ Err r
   unfolding frame_verdict or_else
   last_refused r each e = rw (all_accept (window_test f) 0 4 (λ i low high. each i (omega arith))) e
 
@@ -171,16 +171,16 @@ module _ (f : MajorFrame) where
   end_in_frame h i k = ends_in_frame (follow h) i k
 
   -- the three answers of a lookup
-  pub lookup_refused : (t : ℕ) (r : Refusal) → frame_verdict f ≡ Refused r → current_window f t ≡ located 0 (Refused r)
+  pub lookup_refused : (t : ℕ) (r : Refusal) → frame_verdict f ≡ Err r → current_window f t ≡ located 0 (Err r)
   unfolding current_window
   lookup_refused t = lookup.refused located _ _ t _
 
-  pub lookup_past : (t : ℕ) → frame_verdict f ≡ Accepted → f.frame_len ≤ t → current_window f t ≡ located 0 (Refused TickPastFrame)
+  pub lookup_past : (t : ℕ) → frame_verdict f ≡ accepted → f.frame_len ≤ t → current_window f t ≡ located 0 (Err TickPastFrame)
   unfolding current_window
   lookup_past t = lookup.past located _ _ t _
 
-  pub lookup_found : (t : ℕ) → frame_verdict f ≡ Accepted → t < f.frame_len
-      → current_window f t ≡ located (window_at 4 (offset_at f) (budget_at f) t) Accepted
+  pub lookup_found : (t : ℕ) → frame_verdict f ≡ accepted → t < f.frame_len
+      → current_window f t ≡ located (window_at 4 (offset_at f) (budget_at f) t) accepted
   unfolding current_window
   lookup_found t = lookup.found located _ _ t _
 

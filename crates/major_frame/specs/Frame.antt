@@ -1,14 +1,15 @@
 -- The major frame of the original, src/partition_switch.rs: `win_end`, `frame_inv`, `in_window`; and the verdict and the
 -- window that document 01 gives for it ("What is ported", 2; "Refusal numbers and their place").
-use Rattle.std.specs.Prelude.{not, ◌≡◌, ℕ, zero, suc, ◌+◌, ◌≤◌, ◌<◌, eqb, get_or}
+use Rattle.std.specs.Prelude.{not, Result, Ok, Err, ◌≡◌, ℕ, zero, suc, ◌+◌, ◌≤◌, ◌<◌, eqb, get_or}
+use Rattle.refusal.specs.declared.Refusal.{Refusal}
 use Rattle.refusal.specs.declared.Refusal.TheVariants.{ZeroBudget, WrongStart, WrongLength}
-use Rattle.refusal.specs.declared.Verdict.{Verdict}
+use Rattle.refusal.specs.Verdict.{Verdict, accepted}
 use Rattle.refusal.specs.First.{refuse_if, or_else}
 use Rattle.verdict.specs.First.{first_fault}
+use Rattle.timeline.specs.declared.Located.{Located}
 use Rattle.timeline.specs.Windows.{window_at}
 use Rattle.timeline.specs.Lookup.{lookup_verdict, looked_up}
 use Rattle.major_frame.specs.declared.MajorFrame.{MajorFrame}
-use Rattle.major_frame.specs.declared.Located.{Located}
 
 abbrev pub partition_at : MajorFrame → ℕ → ℕ
 partition_at f i = get_or f.partition_id i 0
@@ -62,9 +63,14 @@ unfoldable pub frame_verdict : MajorFrame → Verdict
 frame_verdict f = or_else (first_fault (window_test f) 0 4) (length_test f)
 
 -- what a lookup answers: the window that holds the tick, and the verdict
-abbrev pub located : ℕ → Verdict → Located
+abbrev pub located : ℕ → Verdict → Located ℕ
 located window verdict = record { window = window; verdict = verdict }
 
-unfoldable pub current_window : MajorFrame → ℕ → Located
+-- the same of a window that was found or refused
+abbrev pub answer_of : Result ℕ Refusal → Located ℕ
+answer_of (Ok window) = located window accepted
+answer_of (Err r) = located 0 (Err r)
+
+unfoldable pub current_window : MajorFrame → ℕ → Located ℕ
 current_window f t =
     looked_up located (lookup_verdict (frame_verdict f) f.frame_len t) (window_at 4 (offset_at f) (budget_at f) t)

@@ -1,25 +1,24 @@
 // What a frame is asked: its verdict, the last tick and the owner of a window, and the window of a tick.
 ghost use Rattle.std.specs.Prelude.{◌≡◌, ◌+◌, ◌<◌, eqb};
 ghost use Rattle.timeline.specs.Windows.{window_at};
-ghost use Rattle.major_frame.specs.Frame.{FrameInv, partition_at, offset_at, budget_at, win_end, window_fault, frame_verdict, current_window};
+ghost use Rattle.major_frame.specs.Frame.{FrameInv, partition_at, offset_at, budget_at, win_end, window_fault, frame_verdict, current_window, answer_of};
 
-use crate::{LAST_WINDOW, Located, MAX_WINDOWS, MajorFrame, WINDOWS, window_end};
+use crate::{LAST_WINDOW, MajorFrame, WINDOWS, window_end};
 use refusal::{Refusal, Verdict};
+use timeline::Located;
 
 // The tests of one window that should start at `start`.
 #[tactic(auto, unfolding(crate::specs::Frame::window_fault, refusal::specs::First::refuse_if, refusal::specs::First::or_else))]
 fn window_fault(i: u32, start: u64, offset: u32, budget: u32) -> Verdict
     ensures { result ≡ window_fault i start offset budget }
 {
-    let at = offset as u64;
     if budget == 0 {
-        return Verdict::Refused(Refusal::ZeroBudget(i));
+        return Err(Refusal::ZeroBudget(i));
     }
-    if at == start {
-        Verdict::Accepted
-    } else {
-        Verdict::Refused(Refusal::WrongStart(i))
+    if offset as u64 != start {
+        return Err(Refusal::WrongStart(i));
     }
+    Ok(())
 }
 
 impl MajorFrame {
@@ -39,11 +38,7 @@ impl MajorFrame {
     pub fn partition_at(self, i: u32) -> u32
         ensures { result ≡ partition_at self i }
     {
-        if i < WINDOWS {
-            self.partition_id[i as usize]
-        } else {
-            0
-        }
+        self.partition_id.get(i as usize).copied().unwrap_or(0)
     }
 
     // Windows upward, then the frame's length.
@@ -51,28 +46,21 @@ impl MajorFrame {
     pub fn check(self) -> Verdict
         ensures { result ≡ frame_verdict self }
     {
-        let offset = self.offset;
-        let budget = self.budget;
-        let mut end: u64 = 0;
-        let mut i: usize = 0;
-        while i < MAX_WINDOWS {
-            let starts = offset[i];
-            let lasts = budget[i];
-            let verdict = window_fault(i as u32, end, starts, lasts);
-            let Verdict::Accepted = verdict else {
-                return verdict;
-            };
-            end = window_end(starts, lasts);
-            i += 1;
+        let mut end = 0u64;
+        for i in 0..WINDOWS {
+            let offset = self.offset[i as usize];
+            let budget = self.budget[i as usize];
+            window_fault(i, end, offset, budget)?;
+            end = window_end(offset, budget);
         }
-        if end == self.frame_len as u64 {
-            Verdict::Accepted
-        } else {
-            Verdict::Refused(Refusal::WrongLength(LAST_WINDOW))
+        if end != self.frame_len as u64 {
+            return Err(Refusal::WrongLength(LAST_WINDOW));
         }
+        Ok(())
     }
 
     // Three ordered comparisons, as in the original.
+    #[tactic(auto, unfolding(timeline::specs::Windows::window_at, timeline::specs::Windows::holdsb))]
     fn window_of(self, t: u32) -> u32
         requires frame_inv { FrameInv self }
         requires t_bound { t < self.frame_len }
@@ -80,36 +68,41 @@ impl MajorFrame {
     {
         let offset = self.offset;
         if t < offset[1] {
-            return 0;
+            0
+        } else if t < offset[2] {
+            1
+        } else if t < offset[3] {
+            2
+        } else {
+            3
         }
-        if t < offset[2] {
-            return 1;
-        }
-        if t < offset[3] {
-            return 2;
-        }
-        3
     }
 
-    #[tactic(auto, using(crate::proofs::FrameLaws::lookup_refused, crate::proofs::FrameLaws::lookup_past, crate::proofs::FrameLaws::lookup_found))]
-    pub fn current_window(self, t: u32) -> Located
+    // The window that holds tick t.
+    #[tactic(auto, using(crate::proofs::FrameLaws::accepted_inv, crate::proofs::FrameLaws::lookup_refused, crate::proofs::FrameLaws::lookup_past, crate::proofs::FrameLaws::lookup_found))]
+    fn find(self, t: u32) -> Result<u32, Refusal>
+        ensures { answer_of result ≡ current_window self t }
+    {
+        self.check()?;
+        if t >= self.frame_len {
+            return Err(Refusal::TickPastFrame);
+        }
+        Ok(self.window_of(t))
+    }
+
+    // A lookup that is refused answers window 0.
+    pub fn current_window(self, t: u32) -> Located<u32>
         ensures { result ≡ current_window self t }
     {
-        let verdict = self.check();
-        let Verdict::Accepted = verdict else {
-            return Located { window: 0, verdict };
-        };
-        if t < self.frame_len {
-            let window = self.window_of(t);
-            Located {
+        match self.find(t) {
+            Ok(window) => Located {
                 window,
-                verdict: Verdict::Accepted,
-            }
-        } else {
-            Located {
+                verdict: Ok(()),
+            },
+            Err(r) => Located {
                 window: 0,
-                verdict: Verdict::Refused(Refusal::TickPastFrame),
-            }
+                verdict: Err(r),
+            },
         }
     }
 }

@@ -4,30 +4,22 @@
 
 ghost use Rattle.std.specs.Prelude.{◌≡◌, ◌+◌};
 
-use refusal::Verdict;
-
 mod frame;
 
 pub const MAX_WINDOWS: usize = 4;
 
 // The same for window numbers, which are u32, and the last of them.
-pub const WINDOWS: u32 = 4;
+pub const WINDOWS: u32 = MAX_WINDOWS as u32;
 
-pub const LAST_WINDOW: u32 = 3;
+pub const LAST_WINDOW: u32 = WINDOWS - 1;
 
+// Three arrays side by side, as in the original.
 #[derive(Clone, Copy)]
 pub struct MajorFrame {
     pub partition_id: [u32; MAX_WINDOWS],
     pub offset: [u32; MAX_WINDOWS],
     pub budget: [u32; MAX_WINDOWS],
     pub frame_len: u32,
-}
-
-// Where a tick falls.
-#[derive(Clone, Copy)]
-pub struct Located {
-    pub window: u32,
-    pub verdict: Verdict,
 }
 
 // The sum is made in 64 bits, so that 4294967295 + 1 is not taken for 0.

@@ -1,5 +1,6 @@
 -- A phase's words are taken for that phase, so a state's words are read as that state; and words that are read as a state have passed the test that they are its words.
 -- Assumes nothing.
+use Rattle.std.specs.Prelude.{is_some, Option, Some, None}
 use mathlib.Core.Bool.{Bool, true, false, cond, ◌&&◌, true≢false}
 use mathlib.Core.List.{List, [], ◌∷◌}
 use mathlib.Core.Path.{◌≡◌, refl, sym, ap, ◌∙◌}
@@ -15,8 +16,6 @@ use Rattle.protocol.specs.declared.Phase.TheVariants.{At, Stopped}
 use Rattle.protocol.specs.declared.PhaseWords.{PhaseWords}
 use Rattle.protocol.specs.Numbers.{stage_number, phase_words}
 use Rattle.state.specs.declared.State.{State}
-use Rattle.wire.specs.declared.Read.{Read}
-use Rattle.wire.specs.declared.Read.TheVariants.{NoState, Is}
 use Rattle.wire.specs.States.{flag, state_words, stage_at, phase_at, four_at, state_at, same_phase, is_state, read_state}
 use Rattle.nothing_lost.specs.Back.{eight, StatesInWords}
 
@@ -57,23 +56,19 @@ passes s =
 taken_for : (s : State) → state_at (state_words s) ≡ s
 taken_for s = λ i. record { current = s.current; target = s.target; due = s.due; swapped = mark_back s.swapped i; phase = phase_back_lem s.phase i }
 
-comes_back : (s : State) → read_state (state_words s) ≡ Is s
-comes_back s = ap (λ (b : Bool). cond b (Is (state_at (state_words s))) NoState) (passes s) ∙ ap Is (taken_for s)
+comes_back : (s : State) → read_state (state_words s) ≡ Some s
+comes_back s = ap (λ (b : Bool). cond b (Some (state_at (state_words s))) None) (passes s) ∙ ap Some (taken_for s)
 
 -- words that are read as a state have passed the test
-abbrev is_some : Read → Bool
-is_some NoState = false
-is_some (Is s) = true
+abbrev some_of : Option State → State → State
+some_of None d = d
+some_of (Some s) d = s
 
-abbrev some_of : Read → State → State
-some_of NoState d = d
-some_of (Is s) d = s
-
-picked : (b : Bool) (x s : State) → cond b (Is x) NoState ≡ Is s → (b ≡ true) × (x ≡ s)
-picked true x s e = (refl, ap (λ (r : Read). some_of r s) e)
+picked : (b : Bool) (x s : State) → cond b (Some x) None ≡ Some s → (b ≡ true) × (x ≡ s)
+picked true x s e = (refl, ap (λ (r : Option State). some_of r s) e)
 picked false x s e = absurd (true≢false (sym (ap is_some e)))
 
-none_picked : (b : Bool) (x : State) → cond b (Is x) NoState ≡ NoState → b ≡ false
+none_picked : (b : Bool) (x : State) → cond b (Some x) None ≡ None → b ≡ false
 none_picked true x e = absurd (true≢false (ap is_some e))
 none_picked false x e = refl
 
@@ -114,17 +109,17 @@ module _ (current target due mark phase stage cause word : ℕ) where
       let four = same_means (four_at words) (phase_words (phase_at (four_at words))) same in
       λ i. current ∷ target ∷ due ∷ flag_of mark (ltb-true mark 2 small) i ∷ (four i).phase ∷ (four i).stage ∷ (four i).cause ∷ (four i).word ∷ []
 
-  read_as : (s : State) → read_state words ≡ Is s → state_words s ≡ words
+  read_as : (s : State) → read_state words ≡ Some s → state_words s ≡ words
   read_as s e =
       let (passes, is) = picked (is_state words) (state_at words) s e in
       ap state_words (sym is) ∙ passed_words passes
 
-  none_has : read_state words ≡ NoState → (s : State) → state_words s ≡ words → ⊥
+  none_has : read_state words ≡ None → (s : State) → state_words s ≡ words → ⊥
   none_has e s is = true≢false (sym (ap is_state (sym is) ∙ passes s) ∙ none_picked (is_state words) (state_at words) e)
 
-  none_read : (b : Bool) → is_state words ≡ b → ((s : State) → state_words s ≡ words → ⊥) → read_state words ≡ NoState
+  none_read : (b : Bool) → is_state words ≡ b → ((s : State) → state_words s ≡ words → ⊥) → read_state words ≡ None
   none_read true e none = absurd (none (state_at words) (passed_words e))
-  none_read false e none = ap (λ (b : Bool). cond b (Is (state_at words)) NoState) e
+  none_read false e none = ap (λ (b : Bool). cond b (Some (state_at words)) None) e
 
 pub states_in_words : StatesInWords
 states_in_words =

@@ -17,12 +17,11 @@ use Rattle.switcher.specs.Switch.{tick_of, mark_saved_of, mark_swapped_of, mark_
 use Rattle.in_place.specs.declared.Told.{Told}
 use Rattle.in_place.specs.InPlace.{InPlace}
 use Rattle.one_answer.specs.One.{OneAnswer, OneReading, OneAnswerWhere, below_two, silent_at_exit}
-use Rattle.refusal.proofs.number.Reads as refusal-number
-use Rattle.refusal.proofs.place.Reads as refusal-place
-use Rattle.refusal.proofs.host_code.Reads as refusal-host-code
+use Rattle.refusal.proofs.Refusal.number.Reads as refusal-refusal-number
+use Rattle.refusal.proofs.Refusal.place.Reads as refusal-refusal-place
+use Rattle.refusal.proofs.Refusal.host_code.Reads as refusal-refusal-host-code
 use Rattle.refusal.proofs.or_refuse.Reads as refusal-or-refuse
-use Rattle.timeline.proofs.next_tick.Reads as timeline-next-tick
-use Rattle.timeline.proofs.next_window.Reads as timeline-next-window
+use Rattle.timeline.proofs.next_of.Reads as timeline-next-of
 use Rattle.records.proofs.lent.Reads as records-lent
 use Rattle.records.proofs.nth_window.Reads as records-nth-window
 use Rattle.records.proofs.window_end.Reads as records-window-end
@@ -31,7 +30,11 @@ use Rattle.row.proofs.row_fault.Reads as row-row-fault
 use Rattle.row.proofs.clashes.Reads as row-clashes
 use Rattle.rows.proofs.wrong_row_count.Reads as rows-wrong-row-count
 use Rattle.rows.proofs.verdict_of.Reads as rows-verdict-of
-use Rattle.plan.proofs.Frame.check.Reads as plan-frame-check
+use Rattle.plan.proofs.Plan.new.Reads as plan-plan-new
+use Rattle.plan.proofs.Plan.length.Reads as plan-plan-length
+use Rattle.plan.proofs.Plan.windows.Reads as plan-plan-windows
+use Rattle.plan.proofs.Plan.rows.Reads as plan-plan-rows
+use Rattle.plan.proofs.Plan.check.Reads as plan-plan-check
 use Rattle.lookup.proofs.lookup.Reads as lookup-lookup
 use Rattle.own.proofs.own_rows.Reads as own-own-rows
 use Rattle.region.proofs.words_of.Reads as region-words-of
@@ -39,7 +42,8 @@ use Rattle.protocol.proofs.Stage.call_open.Reads as protocol-stage-call-open
 use Rattle.protocol.proofs.Phase.stage.Reads as protocol-phase-stage
 use Rattle.protocol.proofs.Phase.can_be.Reads as protocol-phase-can-be
 use Rattle.protocol.proofs.Phase.kept_word.Reads as protocol-phase-kept-word
-use Rattle.protocol.proofs.Call.words.Reads as protocol-call-words
+use Rattle.protocol.proofs.Stage.number.Reads as protocol-stage-number
+use Rattle.protocol.proofs.call_words.Reads as protocol-call-words
 use Rattle.protocol.proofs.Phase.words.Reads as protocol-phase-words
 use Rattle.run_log.proofs.too_short.Reads as log-too-short
 use Rattle.run_log.proofs.put_call.Reads as log-put-call
@@ -61,15 +65,11 @@ use Rattle.major_frame.proofs.MajorFrame.check.Reads as major-frame-majorframe-c
 use Rattle.major_frame.proofs.MajorFrame.current_window.Reads as major-frame-majorframe-current-window
 use Rattle.major_frame.proofs.window_end.Reads as major-frame-window-end
 use Rattle.switcher.proofs.Switcher.check.Reads as switcher-switcher-check
-use Rattle.switcher.proofs.phase_number.Reads as switcher-phase-number
-use Rattle.switcher.proofs.in_phase.Reads as switcher-in-phase
 use Rattle.switcher.proofs.Switcher.new.Reads as switcher-switcher-new
 use Rattle.switcher.proofs.Switcher.tick.Reads as switcher-switcher-tick
 use Rattle.switcher.proofs.Switcher.mark_saved.Reads as switcher-switcher-mark-saved
 use Rattle.switcher.proofs.Switcher.mark_swapped.Reads as switcher-switcher-mark-swapped
 use Rattle.switcher.proofs.Switcher.mark_resumed.Reads as switcher-switcher-mark-resumed
-use Rattle.run_switch.proofs.call_number.Reads as run-switch-call-number
-use Rattle.run_switch.proofs.call_partition.Reads as run-switch-call-partition
 use Rattle.run_switch.proofs.run_switch.Reads as run-switch-run-switch
 use Rattle.in_place.proofs.tick.Reads as in-place-tick
 use Rattle.in_place.proofs.mark_saved.Reads as in-place-mark-saved
@@ -80,13 +80,9 @@ use Rattle.promise.proofs.of_any_state.Reads as promise-of-any-state
 use Rattle.output.proofs.say.Reads as output-say
 use Rattle.output.proofs.say_number.Reads as output-say-number
 use Rattle.output.proofs.say_with.Reads as output-say-with
-use Rattle.output.proofs.say_wide.Reads as output-say-wide
-use Rattle.output.proofs.say_hex.Reads as output-say-hex
-use Rattle.output.proofs.say_verdict.Reads as output-say-verdict
 use Rattle.output.proofs.put.Reads as output-put
 use Rattle.output.proofs.put_flag.Reads as output-put-flag
 use Rattle.output.proofs.put_verdict.Reads as output-put-verdict
-use Rattle.output.proofs.put_phase.Reads as output-put-phase
 use Rattle.output.proofs.end.Reads as output-end
 use Rattle.wire.proofs.verdict_words.Reads as wire-verdict-words
 use Rattle.wire.proofs.answer_words.Reads as wire-answer-words
@@ -107,23 +103,20 @@ use Rattle.host.proofs.shillingnook_run.Reads as host-shillingnook-run
 both : {A : Type 0} {one other definition : A} → one ≡ definition → other ≡ definition → one ≡ other
 both e e' = e ∙ sym e'
 
-pub refusal_number_one : OneAnswer refusal-number.Post
-refusal_number_one κs xs r r' ends ends' e e' = both e e'
+pub refusal_refusal_number_one : OneAnswer refusal-refusal-number.Post
+refusal_refusal_number_one κs xs r r' ends ends' e e' = both e e'
 
-pub refusal_place_one : OneAnswer refusal-place.Post
-refusal_place_one κs xs r r' ends ends' e e' = both e e'
+pub refusal_refusal_place_one : OneAnswer refusal-refusal-place.Post
+refusal_refusal_place_one κs xs r r' ends ends' e e' = both e e'
 
-pub refusal_host_code_one : OneAnswer refusal-host-code.Post
-refusal_host_code_one κs xs r r' ends ends' e e' = both e e'
+pub refusal_refusal_host_code_one : OneAnswer refusal-refusal-host-code.Post
+refusal_refusal_host_code_one κs xs r r' ends ends' e e' = both e e'
 
 pub refusal_or_refuse_one : OneAnswer refusal-or-refuse.Post
 refusal_or_refuse_one κs xs r r' ends ends' e e' = both e e'
 
-pub timeline_next_tick_one : OneAnswer timeline-next-tick.Post
-timeline_next_tick_one κs xs r r' ends ends' e e' = both e e'
-
-pub timeline_next_window_one : OneAnswer timeline-next-window.Post
-timeline_next_window_one κs xs r r' ends ends' e e' = both e e'
+pub timeline_next_of_one : OneAnswer timeline-next-of.Post
+timeline_next_of_one κs xs r r' ends ends' e e' = both e e'
 
 pub records_lent_one : OneReading records-lent.Post (λ κs r ends. r.now)
 records_lent_one κs xs r r' ends ends' e e' = both e.0 e'.0
@@ -149,8 +142,20 @@ rows_wrong_row_count_one κs xs r r' ends ends' e e' = both e e'
 pub rows_verdict_of_one : OneAnswer rows-verdict-of.Post
 rows_verdict_of_one κs xs r r' ends ends' e e' = both e e'
 
-pub plan_frame_check_one : OneAnswer plan-frame-check.Post
-plan_frame_check_one κs xs r r' ends ends' e e' = both e e'
+pub plan_plan_new_one : OneAnswer plan-plan-new.Post
+plan_plan_new_one κs xs r r' ends ends' e e' = both e e'
+
+pub plan_plan_length_one : OneAnswer plan-plan-length.Post
+plan_plan_length_one κs xs r r' ends ends' e e' = both e e'
+
+pub plan_plan_windows_one : OneReading plan-plan-windows.Post (λ κs r ends. r.now)
+plan_plan_windows_one κs xs r r' ends ends' e e' = both e e'
+
+pub plan_plan_rows_one : OneReading plan-plan-rows.Post (λ κs r ends. r.now)
+plan_plan_rows_one κs xs r r' ends ends' e e' = both e e'
+
+pub plan_plan_check_one : OneAnswer plan-plan-check.Post
+plan_plan_check_one κs xs r r' ends ends' e e' = both e e'
 
 pub lookup_lookup_one : OneAnswer lookup-lookup.Post
 lookup_lookup_one κs xs r r' ends ends' e e' = both e e'
@@ -172,6 +177,9 @@ protocol_phase_can_be_one κs xs r r' ends ends' e e' = both e e'
 
 pub protocol_phase_kept_word_one : OneAnswer protocol-phase-kept-word.Post
 protocol_phase_kept_word_one κs xs r r' ends ends' e e' = both e.0 e'.0
+
+pub protocol_stage_number_one : OneAnswer protocol-stage-number.Post
+protocol_stage_number_one κs xs r r' ends ends' e e' = both e e'
 
 pub protocol_call_words_one : OneAnswer protocol-call-words.Post
 protocol_call_words_one κs xs r r' ends ends' e e' = both e e'
@@ -239,12 +247,6 @@ major_frame_window_end_one κs xs r r' ends ends' e e' = both e e'
 pub switcher_switcher_check_one : OneAnswer switcher-switcher-check.Post
 switcher_switcher_check_one κs xs r r' ends ends' e e' = both e e'
 
-pub switcher_phase_number_one : OneAnswer switcher-phase-number.Post
-switcher_phase_number_one κs xs r r' ends ends' e e' = both e e'
-
-pub switcher_in_phase_one : OneAnswer switcher-in-phase.Post
-switcher_in_phase_one κs xs r r' ends ends' e e' = both e e'
-
 pub switcher_switcher_new_one : OneAnswer switcher-switcher-new.Post
 switcher_switcher_new_one κs xs r r' ends ends' e e' = both e e'
 
@@ -259,12 +261,6 @@ switcher_switcher_mark_swapped_one κs xs r r' ends ends' e e' = both e e'
 
 pub switcher_switcher_mark_resumed_one : OneAnswer switcher-switcher-mark-resumed.Post
 switcher_switcher_mark_resumed_one κs xs r r' ends ends' e e' = both e e'
-
-pub run_switch_call_number_one : OneAnswer run-switch-call-number.Post
-run_switch_call_number_one κs xs r r' ends ends' e e' = both e e'
-
-pub run_switch_call_partition_one : OneAnswer run-switch-call-partition.Post
-run_switch_call_partition_one κs xs r r' ends ends' e e' = both e e'
 
 pub run_switch_run_switch_one : OneAnswer run-switch-run-switch.Post
 run_switch_run_switch_one κs xs r r' ends ends' e e' = both e e'
@@ -340,15 +336,6 @@ module _ (printer : RattleType) (laws : Laws printer) (row : Ghosts printer.Deno
   pub output_say_with_one : OneAnswerWhere (output-say-with.Post printer laws row prints) (λ κs r. IsOk r)
   output_say_with_one κs xs r r' ends ends' e e' o o' = written r r' o o'
 
-  pub output_say_wide_one : OneAnswerWhere (output-say-wide.Post printer laws row prints) (λ κs r. IsOk r)
-  output_say_wide_one κs xs r r' ends ends' e e' o o' = written r r' o o'
-
-  pub output_say_hex_one : OneAnswerWhere (output-say-hex.Post printer laws row prints) (λ κs r. IsOk r)
-  output_say_hex_one κs xs r r' ends ends' e e' o o' = written r r' o o'
-
-  pub output_say_verdict_one : OneAnswerWhere (output-say-verdict.Post printer laws row prints) (λ κs r. IsOk r)
-  output_say_verdict_one κs xs r r' ends ends' e e' o o' = written r r' o o'
-
   pub output_put_one : OneAnswerWhere (output-put.Post printer laws row prints) (λ κs r. IsOk r)
   output_put_one κs xs r r' ends ends' e e' o o' = written r r' o o'
 
@@ -357,9 +344,6 @@ module _ (printer : RattleType) (laws : Laws printer) (row : Ghosts printer.Deno
 
   pub output_put_verdict_one : OneAnswerWhere (output-put-verdict.Post printer laws row prints) (λ κs r. IsOk r)
   output_put_verdict_one κs xs r r' ends ends' e e' o o' = written r r' o o'
-
-  pub output_put_phase_one : OneAnswerWhere (output-put-phase.Post printer laws row prints) (λ κs r. IsOk r)
-  output_put_phase_one κs xs r r' ends ends' e e' o o' = written r r' o o'
 
   pub output_end_one : OneAnswerWhere (output-end.Post printer laws row prints) (λ κs r. IsOk r)
   output_end_one κs xs r r' ends ends' e e' o o' = written r r' o o'
@@ -389,7 +373,7 @@ in_words_left_one κs xs r r' ends ends' e e' = both e e'
 pub log_put_call_log : OneReading log-put-call.Post (λ κs r ends. ends.0.now)
 log_put_call_log κs xs r r' ends ends' e e' = both e.1 e'.1
 
-pub run_run_log : OneReading run-run.Post (λ κs r ends. ends.1.1.1.1.1.0.now)
+pub run_run_log : OneReading run-run.Post (λ κs r ends. ends.1.1.1.0.now)
 run_run_log κs xs r r' ends ends' e e' = both e.1 e'.1
 
 -- the C interface answers nothing; what it writes is one: the answers,

@@ -3,9 +3,10 @@
 #![tactic(auto)]
 
 use major_frame::MajorFrame;
-use output::{end, put, put_flag, say, say_number};
+use output::{end, put, put_flag, say, say_number, say_with};
+use protocol::call_words;
 use refusal::Verdict;
-use run_switch::SeamCall;
+use run_switch::run_switch;
 use std::io;
 use switcher::{Stepped, SwPhase, Switcher};
 
@@ -13,71 +14,52 @@ mod read;
 
 // No case but those of `check` is refused, so this line is never to be seen.
 fn put_refusal(rt: &impl Print, verdict: Verdict) -> io::Result<()> {
-    let Verdict::Refused(r) = verdict else {
-        return Ok(());
-    };
-    say(rt, b"refused ")?;
-    say_number(rt, refusal::number(r))?;
-    say(rt, b" ")
+    if let Err(r) = verdict {
+        say_with(rt, b"refused ", r.number())?;
+        say(rt, b" ")?;
+    }
+    Ok(())
 }
 
 fn put_state(rt: &impl Print, s: Switcher) -> io::Result<()> {
-    let phase = s.phase;
     say_number(rt, s.cur)?;
-    put(rt, switcher::phase_number(phase))?;
+    put(rt, s.phase.number())?;
     put_flag(rt, s.swapped)
 }
 
-fn put_step(rt: &impl Print, r: Stepped) -> io::Result<()> {
-    let verdict = r.verdict;
-    let state = r.state;
-    put_refusal(rt, verdict)?;
-    say_number(rt, if r.done { 1 } else { 0 })?;
-    say(rt, b" ")?;
-    put_state(rt, state)
-}
-
-fn put_call(rt: &impl Print, call: SeamCall) -> io::Result<()> {
-    put(rt, run_switch::call_number(call))?;
-    put(rt, run_switch::call_partition(call))
-}
-
-fn show_check(rt: &impl Print, f: MajorFrame) -> io::Result<()> {
-    let verdict = f.check();
-    match verdict {
-        Verdict::Accepted => say_number(rt, 1),
-        Verdict::Refused(_) => say_number(rt, 0),
-    }
+fn show_flag(rt: &impl Print, flag: bool) -> io::Result<()> {
+    say_number(rt, u32::from(flag))
 }
 
 fn show_window(rt: &impl Print, f: MajorFrame, t: u32) -> io::Result<()> {
     let located = f.current_window(t);
-    let verdict = located.verdict;
-    put_refusal(rt, verdict)?;
+    put_refusal(rt, located.verdict)?;
     say_number(rt, located.window)
 }
 
 fn show_new(rt: &impl Print, f: MajorFrame) -> io::Result<()> {
     let made = Switcher::new(f);
-    let verdict = made.verdict;
-    let state = made.state;
-    put_refusal(rt, verdict)?;
-    put_state(rt, state)
+    put_refusal(rt, made.verdict)?;
+    put_state(rt, made.state)
+}
+
+fn show_step(rt: &impl Print, r: Stepped) -> io::Result<()> {
+    put_refusal(rt, r.verdict)?;
+    show_flag(rt, r.done)?;
+    say(rt, b" ")?;
+    put_state(rt, r.state)
 }
 
 fn show_switch(rt: &impl Print, s: Switcher, save: u32, swap: u32, resume: u32) -> io::Result<()> {
-    let r = run_switch::run_switch(s, save, swap, resume);
-    let verdict = r.verdict;
-    let state = r.state;
-    let calls = r.calls;
-    let first = calls.first;
-    let second = calls.second;
-    let third = calls.third;
-    put_refusal(rt, verdict)?;
-    put_state(rt, state)?;
-    put_call(rt, first)?;
-    put_call(rt, second)?;
-    put_call(rt, third)
+    let r = run_switch(s, save, swap, resume);
+    put_refusal(rt, r.verdict)?;
+    put_state(rt, r.state)?;
+    for call in r.calls {
+        let words = call_words(call);
+        put(rt, words.number)?;
+        put(rt, words.partition)?;
+    }
+    Ok(())
 }
 
 fn phase_of(n: u32) -> SwPhase {
@@ -99,28 +81,25 @@ fn frame_of(c: [u32; 20]) -> MajorFrame {
 }
 
 fn state_of(c: [u32; 20]) -> Switcher {
-    let frame = frame_of(c);
-    let phase = phase_of(c[15]);
     Switcher {
-        frame,
+        frame: frame_of(c),
         cur: c[14],
-        phase,
+        phase: phase_of(c[15]),
         swapped: c[16] == 1,
     }
 }
 
 fn show(rt: &impl Print, c: [u32; 20]) -> io::Result<()> {
     let s = state_of(c);
-    let frame = s.frame;
     let x = c[17];
     match c[0] {
-        1 => show_check(rt, frame)?,
-        2 => show_window(rt, frame, x)?,
-        3 => show_new(rt, frame)?,
-        4 => put_step(rt, s.tick(x))?,
-        5 => put_step(rt, s.mark_saved())?,
-        6 => put_step(rt, s.mark_swapped())?,
-        7 => put_step(rt, s.mark_resumed())?,
+        1 => show_flag(rt, s.frame.check().is_ok())?,
+        2 => show_window(rt, s.frame, x)?,
+        3 => show_new(rt, s.frame)?,
+        4 => show_step(rt, s.tick(x))?,
+        5 => show_step(rt, s.mark_saved())?,
+        6 => show_step(rt, s.mark_swapped())?,
+        7 => show_step(rt, s.mark_resumed())?,
         _ => show_switch(rt, s, x, c[18], c[19])?,
     }
     end(rt)

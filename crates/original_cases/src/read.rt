@@ -13,62 +13,41 @@ struct Coming {
     digits: u32,
 }
 
-// 32 bits of it: no number of the list has more.
-fn with_digit(digits: u32, byte: u8) -> u32 {
-    let value = digits as u64 * 10 + byte as u64 % 16;
-    (value % 4294967296) as u32
-}
+impl Coming {
+    const NOTHING: Coming = Coming {
+        case: [0; 20],
+        whole: 0,
+        digits: 0,
+    };
 
-fn with_number(c: Coming) -> Coming {
-    let mut case = c.case;
-    if c.whole < 20 {
-        let at = c.whole;
-        case[at] = c.digits;
-        Coming {
-            case,
-            whole: at + 1,
-            digits: 0,
+    // 32 bits of it: no number of the list has more.
+    fn add_digit(&mut self, byte: u8) {
+        let digit = byte as u32 % 16;
+        self.digits = self.digits.wrapping_mul(10).wrapping_add(digit);
+    }
+
+    // A line has twenty numbers.
+    fn end_number(&mut self) {
+        if let Some(number) = self.case.get_mut(self.whole) {
+            *number = self.digits;
+            self.whole += 1;
+            self.digits = 0;
         }
-    } else {
-        c
     }
 }
 
-fn with_byte(rt: &impl Print, c: Coming, byte: u8) -> io::Result<Coming> {
+fn add_byte(rt: &impl Print, coming: &mut Coming, byte: u8) -> io::Result<()> {
     if byte >= b'0' {
-        let case = c.case;
-        return Ok(Coming {
-            case,
-            whole: c.whole,
-            digits: with_digit(c.digits, byte),
-        });
+        coming.add_digit(byte);
+        return Ok(());
     }
-    let next = with_number(c);
+    coming.end_number();
     if byte == b'\n' {
-        let case = next.case;
-        show(rt, case)?;
-        return Ok(Coming {
-            case,
-            whole: 0,
-            digits: 0,
-        });
+        show(rt, coming.case)?;
+        coming.whole = 0;
+        coming.digits = 0;
     }
-    Ok(next)
-}
-
-fn with_bytes(rt: &impl Print, c: Coming, bytes: &[u8]) -> io::Result<Coming> {
-    let mut c = c;
-    for &byte in bytes {
-        c = with_byte(rt, c, byte)?;
-    }
-    Ok(c)
-}
-
-// How much came in, and what it left.
-#[derive(Clone, Copy)]
-struct Turn {
-    read: usize,
-    coming: Coming,
+    Ok(())
 }
 
 // As much as there is, up to all of `bytes`: a read may bring less, but a byte at least until the input ends.
@@ -86,27 +65,19 @@ fn read_full(input: &mut impl Read, bytes: &mut [u8]) -> io::Result<usize>
     Ok(read)
 }
 
-fn one_turn(rt: &impl Print, input: &mut impl Read, c: Coming) -> io::Result<Turn> {
-    let mut bytes = [0u8; 4096];
-    let read = read_full(input, &mut bytes)?;
-    let coming = with_bytes(rt, c, &bytes[..read])?;
-    Ok(Turn { read, coming })
-}
-
 // A list of up to 400 MB: some bound has to be there, since nothing says that input ends.
 pub fn each_case(rt: &(impl Print + Input)) -> io::Result<()> {
     let mut input = rt.reader();
-    let mut coming = Coming {
-        case: [0; 20],
-        whole: 0,
-        digits: 0,
-    };
+    let mut coming = Coming::NOTHING;
+    let mut bytes = [0u8; 4096];
     for _ in 0..100000 {
-        let turn = one_turn(rt, &mut input, coming)?;
-        if turn.read == 0 {
+        let read = read_full(&mut input, &mut bytes)?;
+        if read == 0 {
             break;
         }
-        coming = turn.coming;
+        for &byte in &bytes[..read] {
+            add_byte(rt, &mut coming, byte)?;
+        }
     }
     Ok(())
 }

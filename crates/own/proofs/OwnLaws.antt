@@ -13,8 +13,8 @@ use lib.Dec.{eqb}
 use lib.ListN.{length, get_or, set, length-append, get_or-append}
 use lib.Seq.{get_or-append_seam}
 use Rattle.refusal.specs.declared.Refusal.{Refusal}
-use Rattle.refusal.specs.declared.Verdict.{Verdict}
-use Rattle.refusal.specs.declared.Verdict.TheVariants.{Accepted, Refused}
+use Rattle.refusal.specs.Verdict.{Verdict, accepted}
+use Rattle.std.specs.Prelude.{Result, Ok, Err}
 use Rattle.records.specs.declared.Row.{Row}
 use Rattle.plan.specs.Plan.{Plan, row_count, row_of, own_rows}
 use Rattle.records.specs.Records.{AllU32, max_partition, nth_row}
@@ -23,6 +23,7 @@ use Rattle.row.specs.Addresses.{PowerOfTwo, MultipleOf, RowsClash}
 use Rattle.rows.specs.Rows.{max_rows_each, rows_of}
 use Rattle.plan.specs.Faults.{verdict_of}
 use Rattle.rows.specs.Tests.{one_if_own}
+use Rattle.own.specs.declared.OwnRows.{OwnRows}
 use Rattle.own.specs.Own.{with_own, no_row, packed, owned, own_rows_of}
 use Rattle.accepted.specs.Accepted as declared
 use Rattle.own.proofs.PaddedLaws.{one_more}
@@ -48,23 +49,28 @@ pub own_step : (rows : List ℕ) (q n : ℕ) → length (rows_of rows q n) + one
 unfolding rows_of
 own_step rows q n room = with_own_lem (rows_of rows q n) (nth_row rows n) q room ∙ ap (λ (m : ℕ). packed (rows_of rows q m)) (sym (add-one n))
 
+-- of what is handed out there is one
+pub same_own : {a b : OwnRows} → ◌≡◌ {A = Result OwnRows Refusal} (Ok a) (Ok b) → a ≡ b
+same_own e = cc
+
 -- the two answers of `own_rows`
 module _ (p : Plan) (q : ℕ) where
-  pub owned_refused : (r : Refusal) → verdict_of p ≡ Refused r → own_rows_of p q ≡ record { own = packed []; verdict = Refused r }
+  pub owned_refused : (r : Refusal) → verdict_of p ≡ Err r → own_rows_of p q ≡ Err r
   unfolding own_rows_of owned
   owned_refused r e = ap (λ (v : Verdict). owned v (own_rows p q)) e
 
-  pub owned_accepted : verdict_of p ≡ Accepted → own_rows_of p q ≡ record { own = packed (own_rows p q); verdict = Accepted }
+  pub owned_accepted : verdict_of p ≡ accepted → own_rows_of p q ≡ Ok (packed (own_rows p q))
   unfolding own_rows_of owned
   owned_accepted e = ap (λ (v : Verdict). owned v (own_rows p q)) e
 
-  pub owned_verdict : (own_rows_of p q).verdict ≡ verdict_of p
+  -- it hands rows out exactly if the plan is accepted
+  pub owned_only : (own : OwnRows) → own_rows_of p q ≡ Ok own → verdict_of p ≡ accepted
   unfolding own_rows_of owned
-  owned_verdict = of (verdict_of p)
+  owned_only own = of (verdict_of p)
     where
-      of : (v : Verdict) → (owned v (own_rows p q)).verdict ≡ v
-      of Accepted = refl
-      of (Refused r) = refl
+      of : (v : Verdict) → owned v (own_rows p q) ≡ Ok own → v ≡ accepted
+      of (Ok _) e = refl
+      of (Err r) e = cc
 
 -- where the partition's k-th row stands in the table
 pub record Stands (rows : List ℕ) (q n k : ℕ) : Type 0 where

@@ -5,24 +5,17 @@
 ghost use Rattle.std.specs.Prelude.{◌≡◌, ◌+◌, ◌≤◌, length};
 ghost use Rattle.rows.specs.Rows.{max_rows_each, rows_of};
 ghost use Rattle.rows.specs.Tests.{one_if_own};
-ghost use Rattle.plan.specs.Plan.{plan_of};
 ghost use Rattle.own.specs.Own.{packed, with_own, own_rows_of};
 
-use plan::Frame;
+use plan::Plan;
 use records::{PartitionNo, Row, nth_row};
-use refusal::Verdict;
+use refusal::Refusal;
 
-// The first `count` are the partition's rows; the others are zeros.
+// The first `count` are the partition's rows; the others are zeros. An array, since nothing here is on a heap.
 #[derive(Clone, Copy)]
 pub struct OwnRows {
     pub rows: [Row; 8],
     pub count: u32,
-}
-
-#[derive(Clone, Copy)]
-pub struct Owned {
-    pub own: OwnRows,
-    pub verdict: Verdict,
 }
 
 const NO_ROW: Row = Row {
@@ -62,30 +55,18 @@ fn packed_rows(rows: &[u32], count: u32, partition: PartitionNo) -> OwnRows
     ensures { result ≡ packed (rows_of rows.now partition.0 count) }
 {
     let mut own = OwnRows::NONE;
-    let mut j: u32 = 0;
-    while j < count {
-        let r = nth_row(rows, j);
-        own = own.with_own(r, partition);
-        j += 1;
+    for j in 0..count {
+        own = own.with_own(nth_row(rows, j), partition);
     }
     own
 }
 
 // The rows of a partition; a partition that has none, or that there is not, gets none.
-#[tactic(auto, using(accepted::proofs::AcceptedLaws::accepted_all, crate::proofs::OwnLaws::owned_refused, crate::proofs::OwnLaws::owned_accepted), unfolding(crate::specs::Own::packed, crate::specs::Own::padded))]
-pub fn own_rows(frame: Frame, windows: &[u32], rows: &[u32], partition: PartitionNo) -> Owned
-    ensures { result ≡ own_rows_of (plan_of frame windows.now rows.now) partition.0 }
+#[tactic(auto, using(accepted::proofs::AcceptedLaws::accepted_all, crate::proofs::OwnLaws::owned_refused, crate::proofs::OwnLaws::owned_accepted))]
+pub fn own_rows(plan: &Plan<'_>, partition: PartitionNo) -> Result<OwnRows, Refusal>
+    ensures { result ≡ own_rows_of plan.now partition.0 }
 {
-    let verdict = frame.check(windows, rows);
-    let Verdict::Accepted = verdict else {
-        return Owned {
-            own: OwnRows::NONE,
-            verdict,
-        };
-    };
-    let own = packed_rows(rows, (rows.len() / Row::NUMBERS) as u32, partition);
-    Owned {
-        own,
-        verdict: Verdict::Accepted,
-    }
+    plan.check()?;
+    let rows = plan.rows();
+    Ok(packed_rows(rows, (rows.len() / Row::NUMBERS) as u32, partition))
 }

@@ -9,8 +9,8 @@ use borrow.Author.Tests.{eq-eqb, ne_eqb}
 use lib.ListN.{length}
 use Rattle.refusal.specs.declared.Refusal.{Refusal}
 use Rattle.refusal.specs.declared.Refusal.TheVariants.{Counts, WrongLength, Clash}
-use Rattle.refusal.specs.declared.Verdict.{Verdict}
-use Rattle.refusal.specs.declared.Verdict.TheVariants.{Accepted, Refused}
+use Rattle.refusal.specs.Verdict.{Verdict, accepted}
+use Rattle.std.specs.Prelude.{Err}
 use Rattle.refusal.specs.First.{refuse_if, or_else}
 use Rattle.verdict.specs.First.{refused, first_fault, upward, test_at, first_of, FirstIn}
 use native.Mathlib.Omega.{arith}
@@ -32,7 +32,7 @@ length_test p =
     refuse_if (wrong_length (frame_length p) (window_of p (window_count p - 1))) (WrongLength (window_count p - 1))
 
 -- the counts are in range exactly if 1 is not wrong
-pub counts_accepted : (p : Plan) → (counts_test p ≡ Accepted) ↔ CountsInRange p
+pub counts_accepted : (p : Plan) → (counts_test p ≡ accepted) ↔ CountsInRange p
 unfolding wrong_counts
 counts_accepted p = (
   λ e.
@@ -80,7 +80,7 @@ module _ (p : Plan) where
   in_order = first_of_cons (wrong p) Counts (past_counts p) ∙ ap (or_else (counts_test p)) past_counts_lem
 
   -- the verdict at each place where `check` ends: the first part that refuses, or what the rows say
-  pub counts_refuse : wrong_counts (length p.windows) (length p.rows) ≡ true → verdict_of p ≡ Refused Counts
+  pub counts_refuse : wrong_counts (length p.windows) (length p.rows) ≡ true → verdict_of p ≡ Err Counts
   unfolding or_else refuse_if
   counts_refuse e = rw (in_order, e)
 
@@ -88,12 +88,12 @@ module _ (p : Plan) where
     pub in_range : CountsInRange p
     in_range = (counts_accepted p).0 ((refuses_if _ _).1 counted)
 
-    pub windows_refuse : (r : Refusal) → first_fault (window_test p.windows) 0 (window_count p) ≡ Refused r → verdict_of p ≡ Refused r
+    pub windows_refuse : (r : Refusal) → first_fault (window_test p.windows) 0 (window_count p) ≡ Err r → verdict_of p ≡ Err r
     unfolding or_else refuse_if
     windows_refuse r e = rw (in_order, counted, e)
 
-    pub length_refuses : first_fault (window_test p.windows) 0 (window_count p) ≡ Accepted
-        → (end_of (window_of p (window_count p - 1)) ≡ frame_length p → ⊥) → verdict_of p ≡ Refused (WrongLength (window_count p - 1))
+    pub length_refuses : first_fault (window_test p.windows) 0 (window_count p) ≡ accepted
+        → (end_of (window_of p (window_count p - 1)) ≡ frame_length p → ⊥) → verdict_of p ≡ Err (WrongLength (window_count p - 1))
     unfolding or_else refuse_if
     length_refuses w e = rw (in_order, counted, w, ne_eqb _ _ e)
 
@@ -101,16 +101,16 @@ module _ (p : Plan) where
     rows_fold : rows_verdict p.rows ≡ first_fault (row_test p.rows) 0 (row_count p)
     rows_fold = rows-counted p.rows ((row_count_right (length p.rows)).1 (omega (arith, in_range.rows_whole), in_range.rows_at_most))
 
-    pub rows_decide : first_fault (window_test p.windows) 0 (window_count p) ≡ Accepted
+    pub rows_decide : first_fault (window_test p.windows) 0 (window_count p) ≡ accepted
         → end_of (window_of p (window_count p - 1)) ≡ frame_length p → verdict_of p ≡ rows_verdict p.rows
     unfolding or_else refuse_if
     rows_decide w e = rw (in_order, counted, w, eq-eqb _ _ e) (sym rows_fold)
 
   -- a refusal is the first in document 01's order
-  pub refused_first : (r : Refusal) → verdict_of p ≡ Refused r → FirstIn (wrong p) (order p) r
+  pub refused_first : (r : Refusal) → verdict_of p ≡ Err r → FirstIn (wrong p) (order p) r
   unfolding verdict_of
   refused_first r e = first_in (wrong p) (order p) r e
 
-  pub first_refused : (r : Refusal) → FirstIn (wrong p) (order p) r → verdict_of p ≡ Refused r
+  pub first_refused : (r : Refusal) → FirstIn (wrong p) (order p) r → verdict_of p ≡ Err r
   unfolding verdict_of
   first_refused r f = in_first (wrong p) (order p) r f

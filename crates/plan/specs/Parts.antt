@@ -2,7 +2,7 @@
 -- rows' tests they are `verdict_of`. A `..Fault` is of values, a `..Test` of the window at a place of a list.
 use Rattle.std.specs.Prelude.{List, ℕ}
 use Rattle.refusal.specs.declared.Refusal.TheVariants.{ZeroBudget, WrongStart, UnknownOwner}
-use Rattle.refusal.specs.declared.Verdict.{Verdict}
+use Rattle.refusal.specs.Verdict.{Verdict}
 use Rattle.refusal.specs.First.{refuse_if, or_else}
 use Rattle.records.specs.declared.Window.{Window}
 use Rattle.records.specs.Records.{nth_window, start_of}

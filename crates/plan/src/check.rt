@@ -2,11 +2,10 @@
 ghost use Rattle.std.specs.Prelude.{◌≡◌, ◌+◌, ◌*◌, ◌≤◌, ◌<◌, length};
 ghost use Rattle.verdict.specs.First.{first_fault};
 ghost use Rattle.records.specs.Records.{nth_window};
-ghost use Rattle.plan.specs.Plan.{plan_of};
 ghost use Rattle.plan.specs.Faults.{wrong_counts, verdict_of};
 ghost use Rattle.plan.specs.Parts.{window_fault, window_test};
 
-use crate::Frame;
+use crate::{Frame, Plan};
 use records::{PartitionNo, Window, window_end};
 use refusal::{Refusal, Verdict};
 
@@ -27,7 +26,7 @@ fn wrong_counts(window_numbers: usize, row_numbers: usize) -> bool
     rows::wrong_row_count(row_numbers)
 }
 
-// Window i of the list, which has it: no index is tested.
+// Window i of the list, which has it: unlike `nth_window` no index is tested.
 fn window_in(windows: &[u32], i: u32) -> Window
     requires { i * 3 + 2 < length windows.now }
     ensures { result ≡ nth_window windows.now i }
@@ -49,15 +48,15 @@ fn window_fault(i: u32, start: u64, w: Window) -> Verdict
     let offset = w.offset as u64;
     let owner = w.owner.0;
     if w.budget == 0 {
-        return Verdict::Refused(Refusal::ZeroBudget(i));
+        return Err(Refusal::ZeroBudget(i));
     }
     if offset != start {
-        return Verdict::Refused(Refusal::WrongStart(i));
+        return Err(Refusal::WrongStart(i));
     }
     if PartitionNo::MAX < owner {
-        return Verdict::Refused(Refusal::UnknownOwner(i));
+        return Err(Refusal::UnknownOwner(i));
     }
-    Verdict::Accepted
+    Ok(())
 }
 
 // The first fault among the first `count` windows.
@@ -67,36 +66,30 @@ fn windows_fault(windows: &[u32], count: u32) -> Verdict
     ensures { result ≡ first_fault (window_test windows.now) 0 count }
 {
     let mut start: u64 = 0;
-    let mut i: u32 = 0;
-    while i < count {
+    for i in 0..count {
         let w = window_in(windows, i);
-        let verdict = window_fault(i, start, w);
-        let Verdict::Accepted = verdict else {
-            return verdict;
-        };
+        window_fault(i, start, w)?;
         start = window_end(w);
-        i += 1;
     }
-    Verdict::Accepted
+    Ok(())
 }
 
-impl Frame {
+impl Plan<'_> {
     #[tactic(auto, using(crate::proofs::CheckLaws::rows_decide))]
-    pub fn check(self, windows: &[u32], rows: &[u32]) -> Verdict
-        ensures { result ≡ verdict_of (plan_of self windows.now rows.now) }
+    pub fn check(&self) -> Verdict
+        ensures { result ≡ verdict_of self.now }
     {
+        let windows = self.windows;
+        let rows = self.rows;
         if wrong_counts(windows.len(), rows.len()) {
-            return Verdict::Refused(Refusal::Counts);
+            return Err(Refusal::Counts);
         }
         let count = (windows.len() / Window::NUMBERS) as u32;
-        let timed = windows_fault(windows, count);
-        let Verdict::Accepted = timed else {
-            return timed;
-        };
+        windows_fault(windows, count)?;
         let last = count - 1;
         let end = window_end(window_in(windows, last));
-        if end != self.length as u64 {
-            return Verdict::Refused(Refusal::WrongLength(last));
+        if end != self.frame.length as u64 {
+            return Err(Refusal::WrongLength(last));
         }
         rows::verdict_of(rows)
     }

@@ -6,7 +6,7 @@ use mathlib.Core.Logic.{◌↔◌}
 use mathlib.Core.Path.{◌≡◌, refl, sym, ap, ◌∙◌}
 use Prim.Native.Nat.{ℕ, ◌+◌, ◌<◌}
 use native.Mathlib.Omega.{arith}
-use Rattle.refusal.specs.declared.Verdict.TheVariants.{Accepted}
+use Rattle.refusal.specs.Verdict.{accepted}
 use Rattle.verdict.specs.Outcome.{outcome}
 use Rattle.verdict.proofs.Outcome.{same_outcome}
 use Rattle.timeline.specs.Windows.{Holds, next_window, next_tick}
@@ -14,8 +14,8 @@ use Rattle.timeline.proofs.Laws.{exactly_one, share_no_tick, next_holds, next_is
 use Rattle.major_frame.specs.declared.MajorFrame.{MajorFrame}
 use Rattle.major_frame.specs.Frame.{offset_at, budget_at, win_end, FrameInv, InWindow, frame_verdict, current_window}
 use Rattle.major_frame.proofs.FrameLaws.{follow, accepted_inv as frame-accepted-inv, inv_accepted as frame-inv-accepted, lookup_found}
-use Rattle.switcher.specs.declared.SwPhase.{SwPhase}
-use Rattle.switcher.specs.declared.SwPhase.TheVariants.{Running, SaveCtx, ProgramRegions, Resume}
+use Rattle.protocol.specs.declared.Stage.{Stage}
+use Rattle.protocol.specs.declared.Stage.TheVariants.{Running, SaveCtx, ProgramRegions, Resume}
 use Rattle.switcher.specs.declared.Switcher.{Switcher}
 use Rattle.run_switch.specs.declared.Switched.{Switched}
 use Rattle.switcher.specs.declared.Stepped.{Stepped}
@@ -26,7 +26,7 @@ use Rattle.run_switch.proofs.RunSwitchLaws.{one_call, two_calls, three_calls, sw
 use Rattle.port.specs.Original.{Accepts, Check, CurrentWindow, New, Tick, MarkSaved, MarkSwapped, MarkResumed, RunSwitch, SwitchCalls, OriginalClauses, LeftOpen}
 
 pub check : (f : MajorFrame) → Check f (frame_verdict f)
-check f = record { answers = (λ e. frame-accepted-inv f (same_outcome (frame_verdict f) Accepted e), λ h. ap outcome (frame-inv-accepted f h)) }
+check f = record { answers = (λ e. frame-accepted-inv f (same_outcome (frame_verdict f) accepted e), λ h. ap outcome (frame-inv-accepted f h)) }
 
 inside : (f : MajorFrame) (i t : ℕ) → InWindow f i t → Holds (offset_at f) (budget_at f) i t
 inside f i t h = record { started = h.started; not_ended = h.not_ended }
@@ -76,7 +76,7 @@ not_done : {A : Type 0} → (A → ⊥) → (false ≡ true) ↔ A
 not_done no_way = (λ q. absurd (true≢false (sym q)), λ q. absurd (no_way q))
 
 -- each maker keeps `inv`
-moved_inv : (s : Switcher) (p : SwPhase) (m : Bool) (w : ℕ) → Inv s → w < 4 → (p ≡ Resume → m ≡ true) → (p ≡ SaveCtx → m ≡ false)
+moved_inv : (s : Switcher) (p : Stage) (m : Bool) (w : ℕ) → Inv s → w < 4 → (p ≡ Resume → m ≡ true) → (p ≡ SaveCtx → m ≡ false)
     → (p ≡ ProgramRegions → m ≡ false) → Inv (moved s w p m)
 moved_inv s p m w h k a b c =
     record { frame_inv = h.frame_inv; cur_is_window = k; resume_is_swapped = a; save_is_not_swapped = b; program_is_not_swapped = c }
@@ -99,8 +99,8 @@ resumed_inv s h =
 module _ (s : Switcher) (h : Inv s) where
   -- what holds of the step taken and of the step not taken holds of the step
   by_test : (P : Stepped → Type 0) (due : Bool) (next : Switcher)
-      → (due ≡ true → P (record { state = next; done = true; verdict = Accepted }))
-      → (due ≡ false → P (record { state = s; done = false; verdict = Accepted }))
+      → (due ≡ true → P (record { state = next; done = true; verdict = accepted }))
+      → (due ≡ false → P (record { state = s; done = false; verdict = accepted }))
       → P (stepped (state_verdict s) s next due)
   by_test P due next = step_cases P (state_verdict s) s next due (inv_accepted s h)
 

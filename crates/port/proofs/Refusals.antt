@@ -10,8 +10,8 @@ use native.Mathlib.Decide.{dec_lt}
 use native.Mathlib.Omega.{arith}
 use Rattle.refusal.specs.declared.Refusal.{Refusal}
 use Rattle.refusal.specs.declared.Refusal.TheVariants.{ZeroBudget, WrongStart, WrongLength, NoCallOpen, StrangeState}
-use Rattle.refusal.specs.declared.Verdict.{Verdict}
-use Rattle.refusal.specs.declared.Verdict.TheVariants.{Accepted, Refused}
+use Rattle.refusal.specs.Verdict.{Verdict}
+use Rattle.std.specs.Prelude.{Ok, Err}
 use Rattle.refusal.specs.Table.{number_of}
 use Rattle.verdict.specs.Outcome.{outcome}
 use Rattle.verdict.proofs.First.{never_both}
@@ -19,7 +19,7 @@ use Rattle.verdict.proofs.Outcome.{same_outcome}
 use Rattle.major_frame.specs.declared.MajorFrame.{MajorFrame}
 use Rattle.major_frame.specs.Frame.{FrameInv, window_test, frame_verdict, current_window}
 use Rattle.major_frame.proofs.FrameLaws.{test_accepted, budget_refused, start_refused, window_refused, length_refused, length_refuses, refused_first, first_refused, last_refused, lookup_refused, lookup_past, lookup_found, accepted_inv as frame-accepted-inv, inv_accepted as frame-inv-accepted}
-use Rattle.switcher.specs.declared.SwPhase.TheVariants.{SaveCtx}
+use Rattle.protocol.specs.declared.Stage.TheVariants.{SaveCtx}
 use Rattle.switcher.specs.declared.Switcher.{Switcher}
 use Rattle.run_switch.specs.Seam.{calls_words}
 use Rattle.switcher.specs.Switch.{state_verdict, stepped, new_of}
@@ -28,9 +28,9 @@ use Rattle.switcher.proofs.SwitchLaws.{in_phase_lem, accepted_inv, inv_accepted,
 use Rattle.run_switch.proofs.RunSwitchLaws.{switch_refused, switch_refuses, switch_outside, switch_due, run_verdict_lem, run_refused}
 use Rattle.port.specs.Refusals.{Refuses, RightBefore, NoBudget, OtherStart, OtherLength, FrameRefusals, LookupRefusals, NewRefusals, StateRefusals, StepRefusals, SwitchRefusals, PortRefusals}
 
-refused_with : (v : Verdict) → Refuses v → (r : Refusal) × (v ≡ Refused r)
-refused_with Accepted refuses = absurd (refuses refl)
-refused_with (Refused r) refuses = (r, refl)
+refused_with : (v : Verdict) → Refuses v → (r : Refusal) × (v ≡ Err r)
+refused_with (Ok _) refuses = absurd (refuses refl)
+refused_with (Err r) refuses = (r, refl)
 
 module _ (f : MajorFrame) where
   -- the frame's refusal, by what is wrong first
@@ -38,7 +38,7 @@ module _ (f : MajorFrame) where
       → ((i : ℕ) → NoBudget f i → P (ZeroBudget i))
       → ((i : ℕ) → OtherStart f i → P (WrongStart i))
       → ((i : ℕ) → OtherLength f i → P (WrongLength i))
-      → (r : Refusal) → frame_verdict f ≡ Refused r → P r
+      → (r : Refusal) → frame_verdict f ≡ Err r → P r
   by_fault P no-budget other-start other_length r e =
       ⊎_elim
       (λ at.
@@ -51,7 +51,7 @@ module _ (f : MajorFrame) where
       (refused_first f r e)
 
   -- and the other way: the first that is wrong is what the check refuses
-  window_first : (r : Refusal) (i : ℕ) → i < 4 → RightBefore f i → window_test f i ≡ Refused r → frame_verdict f ≡ Refused r
+  window_first : (r : Refusal) (i : ℕ) → i < 4 → RightBefore f i → window_test f i ≡ Err r → frame_verdict f ≡ Err r
   window_first r i below right e =
       first_refused f r i
       (record {
@@ -70,7 +70,7 @@ module _ (f : MajorFrame) where
                   by_fault (λ r. r ≡ ZeroBudget i → NoBudget f i) (λ j h q. let here : j ≡ i = cc in rw (sym here) h)
                   (λ j h q. absurd (omega (arith, ap number_of q)))
                   (λ j h q. absurd (omega (arith, ap number_of q))) (ZeroBudget i)
-                  (same_outcome (frame_verdict f) (Refused (ZeroBudget i)) e)
+                  (same_outcome (frame_verdict f) (Err (ZeroBudget i)) e)
                   refl,
               λ h. ap outcome (window_first (ZeroBudget i) i h.0 h.1 (budget_refused f i h.2)),
             );
@@ -80,7 +80,7 @@ module _ (f : MajorFrame) where
                   by_fault (λ r. r ≡ WrongStart i → OtherStart f i) (λ j h q. absurd (omega (arith, ap number_of q)))
                   (λ j h q. let here : j ≡ i = cc in rw (sym here) h)
                   (λ j h q. absurd (omega (arith, ap number_of q))) (WrongStart i)
-                  (same_outcome (frame_verdict f) (Refused (WrongStart i)) e)
+                  (same_outcome (frame_verdict f) (Err (WrongStart i)) e)
                   refl,
               λ h. ap outcome (window_first (WrongStart i) i h.0 h.1 (start_refused f i h.2 h.3)),
             );
@@ -90,7 +90,7 @@ module _ (f : MajorFrame) where
                   by_fault (λ r. r ≡ WrongLength i → OtherLength f i) (λ j h q. absurd (omega (arith, ap number_of q)))
                   (λ j h q. absurd (omega (arith, ap number_of q)))
                   (λ j h q. let here : j ≡ i = cc in rw (sym here) h) (WrongLength i)
-                  (same_outcome (frame_verdict f) (Refused (WrongLength i)) e)
+                  (same_outcome (frame_verdict f) (Err (WrongLength i)) e)
                   refl,
               λ h.
                   ap outcome (last_refused f (WrongLength 3) (λ j below. (test_accepted f j).1 (h.1 j (omega arith))) (length_refused f h.2))
@@ -100,21 +100,21 @@ module _ (f : MajorFrame) where
             λ h.
             let (r, e) = refused_with (frame_verdict f) h in
             rw e
-            (by_fault (λ r. (i : ℕ) × ((outcome (Refused r) ≡ (2, i)) ⊎ ((outcome (Refused r) ≡ (3, i)) ⊎ (outcome (Refused r) ≡ (5, i)))))
+            (by_fault (λ r. (i : ℕ) × ((outcome (Err r) ≡ (2, i)) ⊎ ((outcome (Err r) ≡ (3, i)) ⊎ (outcome (Err r) ≡ (5, i)))))
             (λ j h. (j, inl refl))
             (λ j h. (j, inr (inl refl)))
             (λ j h. (j, inr (inr refl))) r e);
       }
 
   -- a frame is refused with no number above 5
-  few : (r : Refusal) → frame_verdict f ≡ Refused r → number_of r ≤ 5
+  few : (r : Refusal) → frame_verdict f ≡ Err r → number_of r ≤ 5
   few = by_fault (λ r. number_of r ≤ 5) (λ i h. omega arith) (λ i h. omega arith) (λ i h. omega arith)
 
   lookup_refusals : (t : ℕ) → LookupRefusals f t (current_window f t)
   lookup_refusals t = by_verdict (frame_verdict f) refl
     where
       by_verdict : (v : Verdict) → frame_verdict f ≡ v → LookupRefusals f t (current_window f t)
-      by_verdict Accepted e =
+      by_verdict (Ok _) e =
           elim (dec_lt t f.frame_len) [
             | yes below ↦
                 rw (lookup_found f t e below)
@@ -133,7 +133,7 @@ module _ (f : MajorFrame) where
                   answers_0 = λ h. refl;
                 })
           ]
-      by_verdict (Refused r) e =
+      by_verdict (Err r) e =
           rw (lookup_refused f t r e)
           (record {
             bad_frame = λ h. ap outcome (sym e);
@@ -149,31 +149,31 @@ module _ (f : MajorFrame) where
   new_refusals = by_verdict (frame_verdict f) refl
     where
       by_verdict : (v : Verdict) → frame_verdict f ≡ v → NewRefusals f (new_of f)
-      by_verdict Accepted e =
+      by_verdict (Ok _) e =
           rw (new_started f e) (record { bad_frame = ap outcome (sym e); gives_zeros = λ h. absurd (h refl) })
-      by_verdict (Refused r) e =
+      by_verdict (Err r) e =
           rw (new_refused f r e) (record { bad_frame = ap outcome (sym e); gives_zeros = λ h. refl })
 
 module _ (s : Switcher) where
   -- a state is refused as its frame is, or with 17
-  state_refused : (r : Refusal) → state_verdict s ≡ Refused r → (number_of r ≤ 5) ⊎ (r ≡ StrangeState)
+  state_refused : (r : Refusal) → state_verdict s ≡ Err r → (number_of r ≤ 5) ⊎ (r ≡ StrangeState)
   state_refused r e = by_verdict (frame_verdict s.frame) refl
     where
       by_verdict : (v : Verdict) → frame_verdict s.frame ≡ v → (number_of r ≤ 5) ⊎ (r ≡ StrangeState)
-      by_verdict Accepted ok =
-          ⊎_elim (λ q. absurd (never_both (sym q ∙ e))) (λ q. let same : Refused r ≡ Refused StrangeState = sym e ∙ q in inr (cc)) (only_strange s ok)
-      by_verdict (Refused x) bad =
-          let same : Refused r ≡ Refused x = sym e ∙ frame_refused s x bad in
+      by_verdict (Ok _) ok =
+          ⊎_elim (λ q. absurd (never_both (sym q ∙ e))) (λ q. let same : Err r ≡ Err StrangeState = sym e ∙ q in inr (cc)) (only_strange s ok)
+      by_verdict (Err x) bad =
+          let same : Err r ≡ Err x = sym e ∙ frame_refused s x bad in
           let is : r ≡ x = cc in
           inl (rw is (few s.frame x bad))
 
-  good_frame : state_verdict s ≡ Refused StrangeState → FrameInv s.frame
+  good_frame : state_verdict s ≡ Err StrangeState → FrameInv s.frame
   good_frame e = by_verdict (frame_verdict s.frame) refl
     where
       by_verdict : (v : Verdict) → frame_verdict s.frame ≡ v → FrameInv s.frame
-      by_verdict Accepted ok = frame-accepted-inv s.frame ok
-      by_verdict (Refused r) bad =
-          let same : Refused StrangeState ≡ Refused r = sym e ∙ frame_refused s r bad in
+      by_verdict (Ok _) ok = frame-accepted-inv s.frame ok
+      by_verdict (Err r) bad =
+          let same : Err StrangeState ≡ Err r = sym e ∙ frame_refused s r bad in
           let is : r ≡ StrangeState = cc in
           absurd (omega (arith, few s.frame r bad, ap number_of is))
 
@@ -183,7 +183,7 @@ module _ (s : Switcher) where
         bad_frame = λ h. let (r, e) = refused_with (frame_verdict s.frame) h in ap outcome (frame_refused s r e ∙ sym e);
         strange = (
           λ q.
-              let e : state_verdict s ≡ Refused StrangeState = same_outcome (state_verdict s) (Refused StrangeState) q in
+              let e : state_verdict s ≡ Err StrangeState = same_outcome (state_verdict s) (Err StrangeState) q in
               (good_frame e, λ inv. never_both (sym (inv_accepted s inv) ∙ e)),
           λ h.
               ⊎_elim (λ ok. absurd (h.1 (accepted_inv s ok))) (λ e. ap outcome e)
@@ -194,7 +194,7 @@ module _ (s : Switcher) where
   step_refusals : (next : Switcher) (due : Bool) → StepRefusals s (stepped (state_verdict s) s next due)
   step_refusals next due =
       let guard = step_verdict (state_verdict s) s next due in
-      let refused : (h : Refuses (stepped (state_verdict s) s next due).verdict) → (r : Refusal) × (state_verdict s ≡ Refused r) = λ h. let (r, e) = refused_with _ h in (r, sym guard ∙ e) in
+      let refused : (h : Refuses (stepped (state_verdict s) s next due).verdict) → (r : Refusal) × (state_verdict s ≡ Err r) = λ h. let (r, e) = refused_with _ h in (r, sym guard ∙ e) in
       record {
         state = rw guard state_refusals;
         no_other = λ h inv. h (ap outcome (guard ∙ inv_accepted s inv));
@@ -210,15 +210,15 @@ module _ (s : Switcher) where
         strange = (
           λ q.
               ⊎_elim (λ e. state_refusals.strange.0 (ap outcome e)) (λ h. absurd (omega (arith, ap number_of h.1)))
-              (switch_refuses s StrangeState (same_outcome (switch_verdict s) (Refused StrangeState) q)),
-          λ h. ap outcome (switch_refused s StrangeState (same_outcome (state_verdict s) (Refused StrangeState) (state_refusals.strange.1 h))),
+              (switch_refuses s StrangeState (same_outcome (switch_verdict s) (Err StrangeState) q)),
+          λ h. ap outcome (switch_refused s StrangeState (same_outcome (state_verdict s) (Err StrangeState) (state_refusals.strange.1 h))),
         );
       }
 
   switch_refusals : (save swap resume : ℕ) → SwitchRefusals s (run_switch_of s save swap resume)
   switch_refusals save swap resume =
       let guard = run_verdict_lem s save swap resume in
-      let refused : (h : Refuses (run_switch_of s save swap resume).verdict) → (r : Refusal) × (switch_verdict s ≡ Refused r) = λ h. let (r, e) = refused_with _ h in (r, sym guard ∙ e) in
+      let refused : (h : Refuses (run_switch_of s save swap resume).verdict) → (r : Refusal) × (switch_verdict s ≡ Err r) = λ h. let (r, e) = refused_with _ h in (r, sym guard ∙ e) in
       record {
         state = rw guard switch_state;
         no_call_open =
@@ -226,7 +226,7 @@ module _ (s : Switcher) where
               λ q.
                   ⊎_elim (λ e. ⊎_elim (λ h. absurd (omega arith)) (λ is. absurd (omega (arith, ap number_of is))) (state_refused NoCallOpen e))
                   (λ h. (accepted_inv s h.0, h.2))
-                  (switch_refuses s NoCallOpen (same_outcome (switch_verdict s) (Refused NoCallOpen) q)),
+                  (switch_refuses s NoCallOpen (same_outcome (switch_verdict s) (Err NoCallOpen) q)),
               λ h.
                   ap outcome
                   (switch_outside s (inv_accepted s h.0) (eq-false_of_not-eq-true (λ p. h.1 ((in_phase_lem s.phase SaveCtx).0 p)))),

@@ -2,7 +2,7 @@
 -- the state at entry, `self` the state at exit and `answer` what the caller is told; what each contract says of them is `InPlace` of the by-value step. Each
 -- clause of the original then holds of them, and each refusal is as it is by value. docs/CONTRACTS.md has a row a clause.
 use Rattle.std.specs.Prelude.{true, ◌≡◌, ℕ}
-use Rattle.switcher.specs.declared.SwPhase.TheVariants.{Resume}
+use Rattle.protocol.specs.declared.Stage.TheVariants.{Resume}
 use Rattle.switcher.specs.declared.Switcher.{Switcher}
 use Rattle.switcher.specs.declared.Stepped.{Stepped}
 use Rattle.switcher.specs.Switch.{Inv, tick_of, mark_saved_of, mark_swapped_of, mark_resumed_of}

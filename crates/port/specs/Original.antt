@@ -2,13 +2,13 @@
 -- order of the source. In `OriginalClauses` each stands behind what the source requires, under which the port accepts (outcome 0 at 0).
 -- docs/CONTRACTS.md has a row a clause.
 use Rattle.std.specs.Prelude.{true, false, [], ◌∷◌, ◌↔◌, ◌≡◌, ℕ, ◌+◌, ◌<◌}
-use Rattle.refusal.specs.declared.Verdict.{Verdict}
+use Rattle.refusal.specs.Verdict.{Verdict}
 use Rattle.verdict.specs.Outcome.{outcome}
 use Rattle.timeline.specs.Windows.{next_window, next_tick}
 use Rattle.major_frame.specs.declared.MajorFrame.{MajorFrame}
-use Rattle.major_frame.specs.declared.Located.{Located}
+use Rattle.timeline.specs.declared.Located.{Located}
 use Rattle.major_frame.specs.Frame.{FrameInv, InWindow, win_end, frame_verdict, current_window}
-use Rattle.switcher.specs.declared.SwPhase.TheVariants.{Running, SaveCtx, ProgramRegions, Resume}
+use Rattle.protocol.specs.declared.Stage.TheVariants.{Running, SaveCtx, ProgramRegions, Resume}
 use Rattle.switcher.specs.declared.Switcher.{Switcher}
 use Rattle.switcher.specs.declared.Made.{Made}
 use Rattle.switcher.specs.declared.Stepped.{Stepped}
@@ -25,7 +25,7 @@ pub record Check (f : MajorFrame) (v : Verdict) : Type 0 where
   pub answers : Accepts v ↔ FrameInv f
 
 -- `current_window`, of what it answers
-pub record CurrentWindow (f : MajorFrame) (t : ℕ) (r : Located) : Type 0 where
+pub record CurrentWindow (f : MajorFrame) (t : ℕ) (r : Located ℕ) : Type 0 where
   pub accepts : Accepts r.verdict
   pub is_window : r.window < 4
   pub holds : InWindow f r.window t

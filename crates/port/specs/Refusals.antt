@@ -2,12 +2,12 @@
 -- window; 17 means that `inv` is false; a refusal hands back the state it got, or zeros in Running with the mark false where none
 -- was given; a refused lookup answers 0, a refused switch lists no call. docs/CONTRACTS.md cites the fields.
 use Rattle.std.specs.Prelude.{false, [], ◌↔◌, ◌⊎◌, ◌≡◌, ℕ, ◌≤◌, ◌<◌}
-use Rattle.refusal.specs.declared.Verdict.{Verdict}
+use Rattle.refusal.specs.Verdict.{Verdict}
 use Rattle.verdict.specs.Outcome.{outcome}
 use Rattle.major_frame.specs.declared.MajorFrame.{MajorFrame}
-use Rattle.major_frame.specs.declared.Located.{Located}
+use Rattle.timeline.specs.declared.Located.{Located}
 use Rattle.major_frame.specs.Frame.{offset_at, budget_at, win_end, start_of, FrameInv, frame_verdict, current_window}
-use Rattle.switcher.specs.declared.SwPhase.TheVariants.{SaveCtx}
+use Rattle.protocol.specs.declared.Stage.TheVariants.{SaveCtx}
 use Rattle.switcher.specs.declared.Switcher.{Switcher}
 use Rattle.switcher.specs.declared.Made.{Made}
 use Rattle.switcher.specs.declared.Stepped.{Stepped}
@@ -42,7 +42,7 @@ pub record FrameRefusals (f : MajorFrame) (v : Verdict) : Type 0 where
   pub no_other : Refuses v → (i : ℕ) × ((outcome v ≡ (2, i)) ⊎ ((outcome v ≡ (3, i)) ⊎ (outcome v ≡ (5, i))))
 
 -- `current_window`: the frame's number, else 12 at place 0; window 0
-pub record LookupRefusals (f : MajorFrame) (t : ℕ) (r : Located) : Type 0 where
+pub record LookupRefusals (f : MajorFrame) (t : ℕ) (r : Located ℕ) : Type 0 where
   pub bad_frame : Refuses (frame_verdict f) → outcome r.verdict ≡ outcome (frame_verdict f)
   pub past_frame : (outcome r.verdict ≡ (12, 0)) ↔ (FrameInv f × (f.frame_len ≤ t))
   pub no_other : Refuses r.verdict → FrameInv f → t < f.frame_len → ⊥

@@ -4,45 +4,48 @@
 
 use major_frame::MajorFrame;
 use output::{end, put, put_flag, put_verdict, say};
-use run_switch::{Calls, SeamCall};
+use protocol::{Call, call_words};
 use std::io;
 use switcher::{Stepped, SwPhase, Switcher};
 
+const FRAME_A: MajorFrame = MajorFrame {
+    partition_id: [0, 1, 0, 2],
+    offset: [0, 10, 30, 35],
+    budget: [10, 20, 5, 15],
+    frame_len: 50,
+};
+
+// The state that `new` makes of it.
+const STARTED: Switcher = Switcher {
+    frame: FRAME_A,
+    cur: 0,
+    phase: SwPhase::Running,
+    swapped: false,
+};
+
 fn put_state(rt: &impl Print, s: Switcher) -> io::Result<()> {
-    let phase = s.phase;
     put(rt, s.cur)?;
-    put(rt, switcher::phase_number(phase))?;
+    put(rt, s.phase.number())?;
     put_flag(rt, s.swapped)
 }
 
-fn put_call(rt: &impl Print, call: SeamCall) -> io::Result<()> {
-    put(rt, run_switch::call_number(call))?;
-    put(rt, run_switch::call_partition(call))
-}
-
-fn put_calls(rt: &impl Print, calls: Calls) -> io::Result<()> {
-    let first = calls.first;
-    let second = calls.second;
-    let third = calls.third;
-    put_call(rt, first)?;
-    put_call(rt, second)?;
-    put_call(rt, third)
+fn put_calls(rt: &impl Print, calls: [Option<Call>; 3]) -> io::Result<()> {
+    for call in calls {
+        let words = call_words(call);
+        put(rt, words.number)?;
+        put(rt, words.partition)?;
+    }
+    Ok(())
 }
 
 // The state is handed on.
 fn show_step(rt: &impl Print, name: &[u8], r: Stepped) -> io::Result<Switcher> {
-    let verdict = r.verdict;
-    let state = r.state;
     say(rt, name)?;
-    put_verdict(rt, verdict)?;
+    put_verdict(rt, r.verdict)?;
     put_flag(rt, r.done)?;
-    put_state(rt, state)?;
+    put_state(rt, r.state)?;
     end(rt)?;
-    Ok(state)
-}
-
-fn show_tick(rt: &impl Print, name: &[u8], s: Switcher, t: u32) -> io::Result<Switcher> {
-    show_step(rt, name, s.tick(t))
+    Ok(r.state)
 }
 
 fn show_switch(
@@ -54,40 +57,33 @@ fn show_switch(
     resume: u32,
 ) -> io::Result<()> {
     let r = run_switch::run_switch(s, save, swap, resume);
-    let verdict = r.verdict;
     say(rt, name)?;
-    put_verdict(rt, verdict)?;
+    put_verdict(rt, r.verdict)?;
     put_state(rt, r.state)?;
     put_calls(rt, r.calls)?;
     end(rt)
 }
 
-// Frame A with that budget of window 2 and that length.
-fn frame(budget: u32, frame_len: u32) -> MajorFrame {
-    MajorFrame {
-        partition_id: [0, 1, 0, 2],
-        offset: [0, 10, 30, 35],
-        budget: [10, 20, budget, 15],
-        frame_len,
-    }
-}
-
 fn show_new(rt: &impl Print, name: &[u8], f: MajorFrame) -> io::Result<Switcher> {
     let r = Switcher::new(f);
-    let verdict = r.verdict;
-    let state = r.state;
     say(rt, name)?;
-    put_verdict(rt, verdict)?;
-    put_state(rt, state)?;
+    put_verdict(rt, r.verdict)?;
+    put_state(rt, r.state)?;
     end(rt)?;
-    Ok(state)
+    Ok(r.state)
+}
+
+fn show_news(rt: &impl Print) -> io::Result<Switcher> {
+    let budget = [10, 20, 0, 15];
+    show_new(rt, b"bad new:", MajorFrame { budget, ..FRAME_A })?;
+    show_new(rt, b"new:", FRAME_A)
 }
 
 fn show_steps(rt: &impl Print, s: Switcher) -> io::Result<Switcher> {
     show_step(rt, b"early:", s.mark_saved())?;
-    show_tick(rt, b"tick 8:", s, 8)?;
-    show_tick(rt, b"tick 10:", s, 10)?;
-    show_tick(rt, b"tick 9:", s, 9)
+    show_step(rt, b"tick 8:", s.tick(8))?;
+    show_step(rt, b"tick 10:", s.tick(10))?;
+    show_step(rt, b"tick 9:", s.tick(9))
 }
 
 fn show_switches(rt: &impl Print, due: Switcher) -> io::Result<()> {
@@ -103,32 +99,26 @@ fn show_marks(rt: &impl Print, due: Switcher) -> io::Result<Switcher> {
     show_step(rt, b"resumed:", swapped.mark_resumed())
 }
 
-// A state over frame A with that length.
-fn state(frame_len: u32, cur: u32, phase: SwPhase, swapped: bool) -> Switcher {
-    let frame = frame(5, frame_len);
-    Switcher {
-        frame,
-        cur,
-        phase,
-        swapped,
-    }
-}
-
 fn show_strange(rt: &impl Print) -> io::Result<()> {
-    show_tick(rt, b"window 4:", state(50, 4, SwPhase::Running, false), 9)?;
-    show_tick(rt, b"marked:", state(50, 0, SwPhase::SaveCtx, true), 9)?;
-    show_tick(
-        rt,
-        b"5 before 17:",
-        state(51, 4, SwPhase::Running, false),
-        9,
-    )?;
+    let past = Switcher { cur: 4, ..STARTED };
+    show_step(rt, b"window 4:", past.tick(9))?;
+    let marked = Switcher {
+        phase: SwPhase::SaveCtx,
+        swapped: true,
+        ..STARTED
+    };
+    show_step(rt, b"marked:", marked.tick(9))?;
+    let frame_len = 51;
+    let frame = MajorFrame {
+        frame_len,
+        ..FRAME_A
+    };
+    show_step(rt, b"5 before 17:", Switcher { frame, ..past }.tick(9))?;
     Ok(())
 }
 
 fn main(rt: HostRuntime) -> io::Result<()> {
-    show_new(&rt, b"bad new:", frame(0, 50))?;
-    let s = show_new(&rt, b"new:", frame(5, 50))?;
+    let s = show_news(&rt)?;
     let due = show_steps(&rt, s)?;
     show_switches(&rt, due)?;
     let next = show_marks(&rt, due)?;

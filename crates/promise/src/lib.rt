@@ -2,22 +2,21 @@
 // that no premise about 32-bit numbers is left to a reader.
 #![tactic(auto)]
 
-ghost use Rattle.plan.specs.Plan.{plan_of};
 ghost use Rattle.promise.specs.Lent.{HoldsOfPlan, HoldsOfState};
 
-use plan::Frame;
+use plan::Plan;
 use records::lent;
 use state::State;
 
-pub fn of_any_plan(frame: Frame, windows: &[u32], rows: &[u32])
-    ensures { HoldsOfPlan (plan_of frame windows.now rows.now) }
+pub fn of_any_plan(plan: &Plan<'_>)
+    ensures { HoldsOfPlan plan.now }
 {
-    lent(rows);
+    lent(plan.rows());
 }
 
-pub fn of_any_state(frame: Frame, windows: &[u32], rows: &[u32], state: State)
-    ensures { HoldsOfState (plan_of frame windows.now rows.now) state }
+pub fn of_any_state(plan: &Plan<'_>, state: State)
+    ensures { HoldsOfState plan.now state }
 {
-    let phase = state.phase;
-    phase.kept_word();
+    plan.length();
+    state.phase.kept_word();
 }

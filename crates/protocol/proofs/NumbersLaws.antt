@@ -1,10 +1,11 @@
 -- The numbers lose nothing: from them the call and the phase can be told again.
 -- Assumes nothing.
+use Rattle.std.specs.Prelude.{Option, Some, None}
 use mathlib.Core.Path.{◌≡◌, refl, sym, ap, ◌∙◌}
 use Prim.Native.Nat.{ℕ, zero, suc}
 use Rattle.records.specs.declared.PartitionNo.{PartitionNo}
 use Rattle.protocol.specs.declared.Call.{Call}
-use Rattle.protocol.specs.declared.Call.TheVariants.{None, SaveFor, SwapFor, ResumeFor}
+use Rattle.protocol.specs.declared.Call.TheVariants.{SaveFor, SwapFor, ResumeFor}
 use Rattle.protocol.specs.declared.Stage.{Stage}
 use Rattle.protocol.specs.declared.Stage.TheVariants.{Running, SaveCtx, ProgramRegions, Resume}
 use Rattle.protocol.specs.declared.Cause.TheVariants.{WrongTick, TickInSwitch, BadStatus}
@@ -14,32 +15,32 @@ use Rattle.protocol.specs.declared.CallWords.{CallWords}
 use Rattle.protocol.specs.declared.PhaseWords.{PhaseWords}
 use Rattle.protocol.specs.Numbers.{call_words, stage_number, phase_words}
 
-call_named : ℕ → PartitionNo → Call
+call_named : ℕ → PartitionNo → Option Call
 call_named zero q = None
-call_named (suc zero) q = SaveFor q
-call_named (suc (suc zero)) q = SwapFor q
-call_named (suc (suc (suc n))) q = ResumeFor q
+call_named (suc zero) q = Some (SaveFor q)
+call_named (suc (suc zero)) q = Some (SwapFor q)
+call_named (suc (suc (suc n))) q = Some (ResumeFor q)
 
-call_back : CallWords → Call
+call_back : CallWords → Option Call
 call_back w = call_named w.number (record { 0 = w.partition })
 
-call_back_lem : (c : Call) → call_back (call_words c) ≡ c
+call_back_lem : (c : Option Call) → call_back (call_words c) ≡ c
 unfolding call_back call_named
 call_back_lem None = refl
-call_back_lem (SaveFor q) = refl
-call_back_lem (SwapFor q) = refl
-call_back_lem (ResumeFor q) = refl
+call_back_lem (Some (SaveFor q)) = refl
+call_back_lem (Some (SwapFor q)) = refl
+call_back_lem (Some (ResumeFor q)) = refl
 
-pub same_call : {c d : Call} → call_words c ≡ call_words d → c ≡ d
+pub same_call : {c d : Option Call} → call_words c ≡ call_words d → c ≡ d
 same_call {c} {d} e = sym (call_back_lem c) ∙ ap call_back e ∙ call_back_lem d
 
-stage_named : ℕ → Stage
+pub stage_named : ℕ → Stage
 stage_named zero = Running
 stage_named (suc zero) = SaveCtx
 stage_named (suc (suc zero)) = ProgramRegions
 stage_named (suc (suc (suc n))) = Resume
 
-stage_back : (s : Stage) → stage_named (stage_number s) ≡ s
+pub stage_back : (s : Stage) → stage_named (stage_number s) ≡ s
 unfolding stage_named
 stage_back Running = refl
 stage_back SaveCtx = refl

@@ -1,8 +1,8 @@
 -- Calls, phases and causes in numbers (document 01, "Each call is two log words: 1 save, 2 swap, 3 resume; then the partition"). Phases and
 -- causes are numbered in the order in which document 01 names them; a cause goes with its tick or its status word.
-use Rattle.std.specs.Prelude.{ℕ}
+use Rattle.std.specs.Prelude.{Option, Some, None, ℕ}
 use Rattle.protocol.specs.declared.Call.{Call}
-use Rattle.protocol.specs.declared.Call.TheVariants.{None, SaveFor, SwapFor, ResumeFor}
+use Rattle.protocol.specs.declared.Call.TheVariants.{SaveFor, SwapFor, ResumeFor}
 use Rattle.protocol.specs.declared.Stage.{Stage}
 use Rattle.protocol.specs.declared.Stage.TheVariants.{Running, SaveCtx, ProgramRegions, Resume}
 use Rattle.protocol.specs.declared.Cause.{Cause}
@@ -28,11 +28,11 @@ swap_for q = call_of 2 q
 abbrev pub resume_for : (partition : ℕ) → CallWords
 resume_for q = call_of 3 q
 
-abbrev pub call_words : Call → CallWords
+abbrev pub call_words : Option Call → CallWords
 call_words None = no_call
-call_words (SaveFor q) = save_for q.0
-call_words (SwapFor q) = swap_for q.0
-call_words (ResumeFor q) = resume_for q.0
+call_words (Some (SaveFor q)) = save_for q.0
+call_words (Some (SwapFor q)) = swap_for q.0
+call_words (Some (ResumeFor q)) = resume_for q.0
 
 abbrev pub stage_number : Stage → ℕ
 stage_number Running = 0

@@ -6,11 +6,12 @@ ghost use Rattle.std.specs.Prelude.{◌≡◌, ◌^◌, ◌<◌};
 ghost use Rattle.protocol.specs.Phase.{call_open, stage_of, can_stop, can_be, kept_word};
 
 use records::PartitionNo;
+pub use words::call_words;
 
 mod words;
 
 // A partition runs, or one of the three calls is open.
-#[derive(Clone, Copy)]
+#[derive(Clone, Copy, PartialEq, Eq)]
 pub enum Stage {
     Running,
     SaveCtx,
@@ -33,25 +34,24 @@ pub enum Phase {
     Stopped(Stage, Cause),
 }
 
-// At most one call an answer, with the partition that it is for.
+// What the host is asked to do, with the partition that it is for; an answer has at most one.
 #[derive(Clone, Copy)]
 pub enum Call {
-    None,
     SaveFor(PartitionNo),
     SwapFor(PartitionNo),
     ResumeFor(PartitionNo),
 }
 
-// 1 save, 2 swap, 3 resume, then the partition; two zeros for no call.
+// A call as a log and C have it: 1 save, 2 swap, 3 resume, then the partition; two zeros for no call.
 #[derive(Clone, Copy)]
 pub struct CallWords {
     pub number: u32,
     pub partition: u32,
 }
 
-// `phase` is 0 to 3, or 4 stopped; `stage` the phase it is in or was stopped in, 0 to 3; `cause` 1 wrong tick, 2 tick in a switch, 3 bad
+// A phase as C has it: `phase` is 0 to 3, or 4 stopped; `stage` the phase it is in or was stopped in, 0 to 3; `cause` 1 wrong tick, 2 tick in a switch, 3 bad
 // status, and `word` its tick or status word, two zeros where it is not stopped.
-#[derive(Clone, Copy)]
+#[derive(Clone, Copy, PartialEq, Eq)]
 pub struct PhaseWords {
     pub phase: u32,
     pub stage: u32,
@@ -66,9 +66,7 @@ impl Stage {
     {
         match self {
             Stage::Running => false,
-            Stage::SaveCtx => true,
-            Stage::ProgramRegions => true,
-            Stage::Resume => true,
+            Stage::SaveCtx | Stage::ProgramRegions | Stage::Resume => true,
         }
     }
 }
@@ -93,8 +91,7 @@ impl Phase {
         ensures { result ≡ stage_of self }
     {
         match self {
-            Phase::At(stage) => stage,
-            Phase::Stopped(stage, _) => stage,
+            Phase::At(stage) | Phase::Stopped(stage, _) => stage,
         }
     }
 
@@ -115,11 +112,8 @@ impl Phase {
     {
         match self {
             Phase::At(_) => 0,
-            Phase::Stopped(_, cause) => match cause {
-                Cause::WrongTick(t) => t,
-                Cause::TickInSwitch(t) => t,
-                Cause::BadStatus(word) => word,
-            },
+            Phase::Stopped(_, Cause::WrongTick(t) | Cause::TickInSwitch(t)) => t,
+            Phase::Stopped(_, Cause::BadStatus(word)) => word,
         }
     }
 }

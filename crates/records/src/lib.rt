@@ -33,7 +33,7 @@ pub struct Row {
     pub partition: PartitionNo,
     pub base: u32,
     pub size: u32,
-    // 0 read, 1 read and write, 2 read and execute
+    // 0 read, 1 read and write, 2 read and execute; a number, since a row that is lent may have any (9 refuses it)
     pub access: u32,
 }
 

@@ -1,3 +1,4 @@
 pub mod Code
 pub mod First
 pub mod Table
+pub mod Verdict

@@ -1,4 +1,4 @@
-// The sixteen error codes of the original's src/error.rs, and OK, each at its value.
+// The sixteen error codes of the original's src/error.rs, and OK, each at its value: numbers, and no enum, as document 01 gives them to a host.
 pub const EINVAL: i32 = -22;
 
 pub const EBUSY: i32 = -16;

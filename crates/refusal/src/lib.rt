@@ -33,76 +33,73 @@ pub enum Refusal {
     StrangeState,
 }
 
-// What a check answers.
-#[derive(Clone, Copy)]
-pub enum Verdict {
-    Accepted,
-    Refused(Refusal),
-}
+// What a check answers: nothing where it accepts.
+pub type Verdict = Result<(), Refusal>;
 
-// Document 01's number of a refusal.
-pub fn number(r: Refusal) -> u32
-    ensures { result ≡ number_of r }
-{
-    match r {
-        Refusal::Counts => 1,
-        Refusal::ZeroBudget(_) => 2,
-        Refusal::WrongStart(_) => 3,
-        Refusal::UnknownOwner(_) => 4,
-        Refusal::WrongLength(_) => 5,
-        Refusal::UnknownPartition(_) => 6,
-        Refusal::BadSize(_) => 7,
-        Refusal::BadBase(_) => 8,
-        Refusal::BadAccess(_) => 9,
-        Refusal::NinthRow(_) => 10,
-        Refusal::Clash(_) => 11,
-        Refusal::TickPastFrame => 12,
-        Refusal::NoCallOpen => 13,
-        Refusal::MachineStopped => 14,
-        Refusal::NoWordsFor => 15,
-        Refusal::LogTooShort => 16,
-        Refusal::StrangeState => 17,
+impl Refusal {
+    // Document 01's number.
+    pub fn number(self) -> u32
+        ensures { result ≡ number_of self }
+    {
+        match self {
+            Refusal::Counts => 1,
+            Refusal::ZeroBudget(_) => 2,
+            Refusal::WrongStart(_) => 3,
+            Refusal::UnknownOwner(_) => 4,
+            Refusal::WrongLength(_) => 5,
+            Refusal::UnknownPartition(_) => 6,
+            Refusal::BadSize(_) => 7,
+            Refusal::BadBase(_) => 8,
+            Refusal::BadAccess(_) => 9,
+            Refusal::NinthRow(_) => 10,
+            Refusal::Clash(_) => 11,
+            Refusal::TickPastFrame => 12,
+            Refusal::NoCallOpen => 13,
+            Refusal::MachineStopped => 14,
+            Refusal::NoWordsFor => 15,
+            Refusal::LogTooShort => 16,
+            Refusal::StrangeState => 17,
+        }
     }
-}
 
-// Where it is: a window, a row, or 0.
-pub fn place(r: Refusal) -> u32
-    ensures { result ≡ place_of r }
-{
-    match r {
-        Refusal::Counts => 0,
-        Refusal::ZeroBudget(window) => window,
-        Refusal::WrongStart(window) => window,
-        Refusal::UnknownOwner(window) => window,
-        Refusal::WrongLength(window) => window,
-        Refusal::UnknownPartition(row) => row,
-        Refusal::BadSize(row) => row,
-        Refusal::BadBase(row) => row,
-        Refusal::BadAccess(row) => row,
-        Refusal::NinthRow(row) => row,
-        Refusal::Clash(row) => row,
-        Refusal::TickPastFrame => 0,
-        Refusal::NoCallOpen => 0,
-        Refusal::MachineStopped => 0,
-        Refusal::NoWordsFor => 0,
-        Refusal::LogTooShort => 0,
-        Refusal::StrangeState => 0,
+    // Where it is: a window, a row, or 0.
+    pub fn place(self) -> u32
+        ensures { result ≡ place_of self }
+    {
+        match self {
+            Refusal::ZeroBudget(window)
+            | Refusal::WrongStart(window)
+            | Refusal::UnknownOwner(window)
+            | Refusal::WrongLength(window) => window,
+            Refusal::UnknownPartition(row)
+            | Refusal::BadSize(row)
+            | Refusal::BadBase(row)
+            | Refusal::BadAccess(row)
+            | Refusal::NinthRow(row)
+            | Refusal::Clash(row) => row,
+            Refusal::Counts | Refusal::TickPastFrame => 0,
+            Refusal::NoCallOpen
+            | Refusal::MachineStopped
+            | Refusal::NoWordsFor
+            | Refusal::LogTooShort
+            | Refusal::StrangeState => 0,
+        }
     }
-}
 
-// The code that the host's error interface knows it by, as document 01's table gives it for each number.
-#[tactic(auto, unfolding(crate::specs::Table::code_of))]
-pub fn host_code(r: Refusal) -> i32
-    ensures { result ≡ host_code_of r }
-{
-    match number(r) {
-        4 | 6 | 15 => code::ENOENT,
-        10 | 16 => code::ENOSPC,
-        11 => code::EADDRINUSE,
-        13 => code::EAGAIN,
-        14 => code::ECANCELED,
-        17 => code::EBADF,
-        _ => code::EINVAL,
+    // The code that the host's error interface knows it by, as document 01's table gives it for each number.
+    #[tactic(auto, unfolding(crate::specs::Table::code_of))]
+    pub fn host_code(self) -> i32
+        ensures { result ≡ host_code_of self }
+    {
+        match self.number() {
+            4 | 6 | 15 => code::ENOENT,
+            10 | 16 => code::ENOSPC,
+            11 => code::EADDRINUSE,
+            13 => code::EAGAIN,
+            14 => code::ECANCELED,
+            17 => code::EBADF,
+            _ => code::EINVAL,
+        }
     }
 }
 
@@ -111,12 +108,6 @@ pub fn host_code(r: Refusal) -> i32
 pub fn or_refuse(verdict: Verdict, passes: bool, r: Refusal) -> Verdict
     ensures { result ≡ or_else verdict (refuse_if (not passes) r) }
 {
-    let Verdict::Accepted = verdict else {
-        return verdict;
-    };
-    if passes {
-        Verdict::Accepted
-    } else {
-        Verdict::Refused(r)
-    }
+    verdict?;
+    if passes { Ok(()) } else { Err(r) }
 }

@@ -7,6 +7,13 @@ ghost use Rattle.words.specs.Words.{ap_of, xn_of, row_pair, free_pair};
 use records::Row;
 use words::Pair;
 
+// The number of a slot.
+#[derive(Clone, Copy)]
+pub(crate) struct Slot {
+    pub number: u32,
+    ghost one_of_eight: { number < slot_count },
+}
+
 // Where the fields start: in the first word ADDR and VALID, in the second XN, AP, TEX, SIZE and ENABLE.
 const ADDR: u32 = 0x20;
 
@@ -34,30 +41,28 @@ fn xn_of(access: u32) -> u32
     if access == Row::EXECUTABLE { 0 } else { 1 }
 }
 
-// Slot k with row r.
+// The slot with row r.
 #[tactic(auto, using(words::proofs::WordsLaws::ap_at_most, words::proofs::WordsLaws::xn_at_most), unfolding(words::specs::Words::row_pair))]
-pub(crate) fn row_pair(k: u32, r: Row) -> Pair
-    requires k_lt_slot_count { k < slot_count }
-    requires size_nonzero { 0 < count_trailing_zeros 32 r.size }
-    ensures { result ≡ row_pair k r }
+pub(crate) fn row_pair(slot: Slot, r: Row) -> Pair
+    requires { 0 < count_trailing_zeros 32 r.size }
+    ensures { result ≡ row_pair slot.number r }
 {
-    let size_field = u32::trailing_zeros(r.size) - 1;
+    let size_field = r.size.trailing_zeros() - 1;
     let ap = ap_of(r.access);
     let xn = xn_of(r.access);
     Pair {
-        first: r.base / ADDR * ADDR + VALID + k,
+        first: r.base / ADDR * ADDR + VALID + slot.number,
         second: xn * XN + ap * AP + TEX + size_field * SIZE + ENABLE,
     }
 }
 
-// Slot k switched off.
+// The slot switched off.
 #[tactic(auto, unfolding(words::specs::Words::free_pair))]
-pub(crate) fn free_pair(k: u32) -> Pair
-    requires { k < slot_count }
-    ensures { result ≡ free_pair k }
+pub(crate) fn free_pair(slot: Slot) -> Pair
+    ensures { result ≡ free_pair slot.number }
 {
     Pair {
-        first: VALID + k,
+        first: VALID + slot.number,
         second: 0,
     }
 }

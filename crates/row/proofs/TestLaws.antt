@@ -4,7 +4,7 @@ use Rattle.std.proofs.Common.{◌≡◌, ℕ, ◌/◌, ◌%◌, ◌≤◌, ◌�
 use mathlib.Core.Logic.Iff
 use native.Mathlib.Nat.{mul-mod_left}
 use lib.Count.{ones}
-use Rattle.refusal.specs.declared.Verdict.TheVariants.{Accepted}
+use Rattle.refusal.specs.Verdict.{accepted}
 use Rattle.verdict.proofs.First.{refuses_if, both_accept}
 use Rattle.refusal.proofs.Tests.{equal, at_most, neither}
 use Rattle.records.specs.declared.Row.{Row}
@@ -14,7 +14,7 @@ use Rattle.row.specs.Addresses.{MultipleOf}
 
 -- 6 to 9
 pub row_accepted : (i : ℕ) (r : Row)
-    → (row_fault i r ≡ Accepted)
+    → (row_fault i r ≡ accepted)
     ↔ ((r.partition.0 ≤ max_partition) × (((min_size ≤ r.size) × (ones r.size ≡ 1)) × ((r.base % r.size ≡ 0) × (r.access ≤ max_access))))
 unfolding row_fault
 row_accepted i r = simp (both_accept, refuses_if, neither, equal, at_most) Iff.rfl

@@ -2,7 +2,7 @@
 -- whole numbers, so no sum wraps.
 use Rattle.std.specs.Prelude.{ℕ, ◌+◌, ◌%◌, Bool, not, ◌&&◌, ◌||◌, ◌==◌, count_ones, nat_lt}
 use Rattle.refusal.specs.declared.Refusal.TheVariants.{UnknownPartition, BadSize, BadBase, BadAccess}
-use Rattle.refusal.specs.declared.Verdict.{Verdict}
+use Rattle.refusal.specs.Verdict.{Verdict}
 use Rattle.refusal.specs.First.{refuse_if, or_else}
 use Rattle.records.specs.declared.Row.{Row}
 use Rattle.records.specs.Records.{max_partition, writable}

@@ -6,7 +6,6 @@ ghost use Rattle.row.specs.Tests.{shares_address, clashes, row_fault};
 
 use records::{PartitionNo, Row};
 use refusal::{Refusal, Verdict};
-use std::num::wrapping_sub_u64;
 
 const MIN_SIZE: u32 = 32;
 
@@ -18,21 +17,21 @@ pub fn row_fault(i: u32, r: Row) -> Verdict
     ensures { result ≡ row_fault i r }
 {
     if PartitionNo::MAX < r.partition.0 {
-        return Verdict::Refused(Refusal::UnknownPartition(i));
+        return Err(Refusal::UnknownPartition(i));
     }
     if r.size < MIN_SIZE {
-        return Verdict::Refused(Refusal::BadSize(i));
+        return Err(Refusal::BadSize(i));
     }
-    if u32::count_ones(r.size) != 1 {
-        return Verdict::Refused(Refusal::BadSize(i));
+    if r.size.count_ones() != 1 {
+        return Err(Refusal::BadSize(i));
     }
     if r.base % r.size != 0 {
-        return Verdict::Refused(Refusal::BadBase(i));
+        return Err(Refusal::BadBase(i));
     }
     if MAX_ACCESS < r.access {
-        return Verdict::Refused(Refusal::BadAccess(i));
+        return Err(Refusal::BadAccess(i));
     }
-    Verdict::Accepted
+    Ok(())
 }
 
 // The distance from b's base up to a's end decides: past both sizes together one row ends before the other starts, with b first or, where the
@@ -44,7 +43,7 @@ fn shares_address(a: Row, b: Row) -> bool
     let a_size = a.size as u64;
     let b_size = b.size as u64;
     let a_end = a.base as u64 + a_size;
-    let distance = wrapping_sub_u64(a_end, b.base as u64);
+    let distance = a_end.wrapping_sub(b.base as u64);
     if a_size + b_size <= distance {
         return false;
     }

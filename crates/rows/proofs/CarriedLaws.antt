@@ -13,7 +13,8 @@ use lib.ListN.{length, get_or, set, replicate, length-set, length-replicate, get
 use lib.Seq.{get_or-set_same, get_or-set_other}
 use Rattle.refusal.specs.declared.Refusal.{Refusal}
 use Rattle.refusal.specs.declared.Refusal.TheVariants.{NinthRow}
-use Rattle.refusal.specs.declared.Verdict.TheVariants.{Accepted, Refused}
+use Rattle.refusal.specs.Verdict.{accepted}
+use Rattle.std.specs.Prelude.{Err}
 use Rattle.refusal.specs.First.{refuse_if, or_else}
 use Rattle.records.specs.declared.Row.{Row}
 use Rattle.records.specs.Records.{max_partition, nth_row}
@@ -49,7 +50,7 @@ module _ (rows : List ℕ) where
   nothing_shared i (inl above) j h (x, in-j, in-i) = omega (arith, largest_at_least i j h)
   nothing_shared i (inr below) j h (x, in-j, in-i) = omega (arith, lowest_at_most i j h)
 
-  pub past_all : (i : ℕ) → PastAll rows i → clashes_before rows i ≡ Accepted
+  pub past_all : (i : ℕ) → PastAll rows i → clashes_before rows i ≡ accepted
   past_all i past = (clashes_accepted rows i).1 (λ j h c. nothing_shared i past j h c.share)
 
   -- before the first row
@@ -98,15 +99,15 @@ module _ (rows : List ℕ) where
 
 -- the tests of row i: the row by itself, then against those before it
 module _ (rows : List ℕ) (i : ℕ) where
-  pub row_refused : (r : Refusal) → row_fault i (nth_row rows i) ≡ Refused r → row_test rows i ≡ Refused r
+  pub row_refused : (r : Refusal) → row_fault i (nth_row rows i) ≡ Err r → row_test rows i ≡ Err r
   unfolding row_test or_else
   row_refused r e = rw e
 
-  pub row_passes : row_fault i (nth_row rows i) ≡ Accepted → row_test rows i ≡ earlier_fault rows i
+  pub row_passes : row_fault i (nth_row rows i) ≡ accepted → row_test rows i ≡ earlier_fault rows i
   unfolding row_test or_else
   row_passes e = rw e
 
-  pub row_is_ninth : length (rows_of rows (nth_row rows i).partition.0 i) ≡ max_rows_each → earlier_fault rows i ≡ Refused (NinthRow i)
+  pub row_is_ninth : length (rows_of rows (nth_row rows i).partition.0 i) ≡ max_rows_each → earlier_fault rows i ≡ Err (NinthRow i)
   unfolding or_else refuse_if
   row_is_ninth n = rw (eq-eqb _ _ n)
 

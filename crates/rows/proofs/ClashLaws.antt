@@ -8,8 +8,8 @@ use mathlib.Mathlib.Data.Bool.Basic.{eq-true_of_not-eq-false, eq-false_of_not-eq
 use Prim.Native.Nat.{ℕ, ◌<◌}
 use native.Mathlib.Omega.{arith}
 use Rattle.refusal.specs.declared.Refusal.TheVariants.{Clash}
-use Rattle.refusal.specs.declared.Verdict.{Verdict}
-use Rattle.refusal.specs.declared.Verdict.TheVariants.{Accepted, Refused}
+use Rattle.refusal.specs.Verdict.{Verdict, accepted}
+use Rattle.std.specs.Prelude.{Ok, Err}
 use Rattle.verdict.specs.First.{refused}
 use Rattle.verdict.proofs.First.{refuses_if, fault_found, not_refused, each_accepts, all_accept, first_refuses}
 use Rattle.records.specs.Records.{nth_row}
@@ -19,7 +19,7 @@ use Rattle.rows.specs.Tests.{clash_test, clashes_before}
 
 module _ (rows : List ℕ) where
   pub clashes_accepted : (i : ℕ)
-      → (clashes_before rows i ≡ Accepted) ↔ ((j : ℕ) → j < i → RowsClash (nth_row rows j) (nth_row rows i) → ⊥)
+      → (clashes_before rows i ≡ accepted) ↔ ((j : ℕ) → j < i → RowsClash (nth_row rows j) (nth_row rows i) → ⊥)
   unfolding clashes_before clash_test
   clashes_accepted i = (
     λ e j h c.
@@ -32,8 +32,8 @@ module _ (rows : List ℕ) where
   first_clash : (i : ℕ) (v : Verdict) → clashes_before rows i ≡ v → refused v ≡ true
       → (j : ℕ) × (j < i) × RowsClash (nth_row rows j) (nth_row rows i)
   unfolding clashes_before clash_test refused
-  first_clash i Accepted e t = absurd (false≢true t)
-  first_clash i (Refused r) e t =
+  first_clash i (Ok _) e t = absurd (false≢true t)
+  first_clash i (Err r) e t =
       let (j, f) = first_refuses (clash_test rows i) 0 i r e in
       (j, omega arith, true_clash (nth_row rows j) (nth_row rows i) (fault_found _ (Clash i) r f.refuses))
 

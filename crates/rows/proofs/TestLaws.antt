@@ -8,7 +8,8 @@ use mathlib.Core.Path.{◌≡◌}
 use Prim.Native.Nat.{ℕ, ◌/◌, ◌%◌, ◌≤◌}
 use lib.ListN.{length}
 use Rattle.refusal.specs.declared.Refusal.TheVariants.{Counts}
-use Rattle.refusal.specs.declared.Verdict.TheVariants.{Accepted, Refused}
+use Rattle.refusal.specs.Verdict.{accepted}
+use Rattle.std.specs.Prelude.{Err}
 use Rattle.refusal.specs.First.{refuse_if, or_else}
 use Rattle.verdict.specs.First.{first_fault}
 use Rattle.verdict.proofs.First.{refuses_if, both_accept}
@@ -21,10 +22,10 @@ use Rattle.rows.specs.Tests.{wrong_row_count, clashes_before, row_test, rows_ver
 module _ (rows : List ℕ) where
   -- all tests of row i
   pub tests_accepted : (i : ℕ)
-      → (row_test rows i ≡ Accepted)
-      ↔ ((row_fault i (nth_row rows i) ≡ Accepted)
+      → (row_test rows i ≡ accepted)
+      ↔ ((row_fault i (nth_row rows i) ≡ accepted)
       × ((length (rows_of rows (nth_row rows i).partition.0 i) ≡ max_rows_each → ⊥)
-      × (clashes_before rows i ≡ Accepted)))
+      × (clashes_before rows i ≡ accepted)))
   unfolding row_test
   tests_accepted i = simp (both_accept, refuses_if, differs) Iff.rfl
 
@@ -35,7 +36,7 @@ row_count_right numbers = simp (neither, equal, at_most) Iff.rfl
 
 -- the two ways in which the rows' verdict is decided
 module _ (rows : List ℕ) where
-  pub miscounted : wrong_row_count (length rows) ≡ true → rows_verdict rows ≡ Refused Counts
+  pub miscounted : wrong_row_count (length rows) ≡ true → rows_verdict rows ≡ Err Counts
   unfolding rows_verdict or_else refuse_if
   miscounted e = rw e
 

@@ -2,7 +2,7 @@
 -- believed: no public contract names it, and proofs/CarriedLaws.antt shows what each says of `row_test`.
 use Rattle.std.specs.Prelude.{List, ◌⊎◌, ◌≡◌, ℕ, zero, suc, ◌+◌, ◌^◌, ◌≤◌, min, max, length, get_or}
 use Rattle.refusal.specs.declared.Refusal.TheVariants.{NinthRow}
-use Rattle.refusal.specs.declared.Verdict.{Verdict}
+use Rattle.refusal.specs.Verdict.{Verdict}
 use Rattle.refusal.specs.First.{refuse_if, or_else}
 use Rattle.records.specs.Records.{max_partition, nth_row}
 use Rattle.rows.specs.Rows.{rows_of}

@@ -2,7 +2,7 @@
 -- place"). A `..Test` is of the row at a place of a list.
 use Rattle.std.specs.Prelude.{Bool, not, cond, ◌||◌, List, ℕ, ◌/◌, ◌%◌, eqb, ltb, length}
 use Rattle.refusal.specs.declared.Refusal.TheVariants.{Counts, NinthRow, Clash}
-use Rattle.refusal.specs.declared.Verdict.{Verdict}
+use Rattle.refusal.specs.Verdict.{Verdict}
 use Rattle.refusal.specs.First.{refuse_if, or_else}
 use Rattle.verdict.specs.First.{first_fault}
 use Rattle.records.specs.declared.Row.{Row}

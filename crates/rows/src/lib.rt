@@ -29,7 +29,7 @@ pub fn verdict_of(rows: &[u32]) -> Verdict
     ensures { result ≡ rows_verdict rows.now }
 {
     if wrong_row_count(rows.len()) {
-        return Verdict::Refused(Refusal::Counts);
+        return Err(Refusal::Counts);
     }
     rows_fault(rows, (rows.len() / Row::NUMBERS) as u32)
 }

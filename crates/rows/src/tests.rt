@@ -1,5 +1,5 @@
 // The tests of the rows upward: each by itself, then against those before it.
-ghost use Rattle.std.specs.Prelude.{◌≡◌, ◌+◌, ◌*◌, ◌≤◌, ◌<◌, min, max, length};
+ghost use Rattle.std.specs.Prelude.{◌≡◌, ◌+◌, ◌*◌, ◌≤◌, ◌<◌, length};
 ghost use Rattle.verdict.specs.First.{first_fault};
 ghost use Rattle.records.specs.Records.{nth_row};
 ghost use Rattle.rows.specs.Rows.{rows_of};
@@ -14,7 +14,7 @@ const MAX_ROWS_EACH: u32 = 8;
 
 const PAST_ADDRESSES: u64 = 0x1_0000_0000;
 
-// Row i of the list, which has it: no index is tested.
+// Row i of the list, which has it: unlike `nth_row` no index is tested.
 fn row_in(rows: &[u32], i: u32) -> Row
     requires { i * 4 + 3 < length rows.now }
     ensures { result ≡ nth_row rows.now i }
@@ -36,15 +36,12 @@ fn clashes_before(rows: &[u32], i: u32, b: Row) -> Verdict
     requires b_value { b ≡ nth_row rows.now i }
     ensures { result ≡ clashes_before rows.now i }
 {
-    let mut j: u32 = 0;
-    while j < i {
-        let a = row_in(rows, j);
-        if clashes(a, b) {
-            return Verdict::Refused(Refusal::Clash(i));
+    for j in 0..i {
+        if clashes(row_in(rows, j), b) {
+            return Err(Refusal::Clash(i));
         }
-        j += 1;
     }
-    Verdict::Accepted
+    Ok(())
 }
 
 // 10 and 11 of row i, which is b. `earlier` rows before it are of its partition; every row before it lies from `lowest` up and below `highest`, so
@@ -58,29 +55,17 @@ fn among_earlier(rows: &[u32], i: u32, b: Row, earlier: u32, lowest: u64, highes
     ensures { result ≡ earlier_fault rows.now i }
 {
     if earlier == MAX_ROWS_EACH {
-        return Verdict::Refused(Refusal::NinthRow(i));
+        return Err(Refusal::NinthRow(i));
     }
     let base = b.base as u64;
     let end = base + b.size as u64;
     if highest <= base {
-        return Verdict::Accepted;
+        return Ok(());
     }
     if end <= lowest {
-        return Verdict::Accepted;
+        return Ok(());
     }
     clashes_before(rows, i, b)
-}
-
-fn smaller(a: u64, b: u64) -> u64
-    ensures { result ≡ min a b }
-{
-    if a < b { a } else { b }
-}
-
-fn larger(a: u64, b: u64) -> u64
-    ensures { result ≡ max a b }
-{
-    if a < b { b } else { a }
 }
 
 // The first fault among the first `count` rows. The loop carries what the rows before say of the next one: how many each partition has, their smallest
@@ -93,24 +78,16 @@ pub(crate) fn rows_fault(rows: &[u32], count: u32) -> Verdict
     let mut counts = [0u32; 16];
     let mut lowest: u64 = PAST_ADDRESSES;
     let mut highest: u64 = 0;
-    let mut i: u32 = 0;
-    while i < count {
+    for i in 0..count {
         let r = row_in(rows, i);
-        let alone = row_fault(i, r);
-        let Verdict::Accepted = alone else {
-            return alone;
-        };
+        row_fault(i, r)?;
         let partition = r.partition.0 as usize;
         let earlier = counts[partition];
-        let verdict = among_earlier(rows, i, r, earlier, lowest, highest);
-        let Verdict::Accepted = verdict else {
-            return verdict;
-        };
+        among_earlier(rows, i, r, earlier, lowest, highest)?;
         counts[partition] = earlier + 1;
         let base = r.base as u64;
-        lowest = smaller(lowest, base);
-        highest = larger(highest, base + r.size as u64);
-        i += 1;
+        lowest = lowest.min(base);
+        highest = highest.max(base + r.size as u64);
     }
-    Verdict::Accepted
+    Ok(())
 }

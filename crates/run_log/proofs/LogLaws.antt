@@ -1,5 +1,6 @@
 -- What a log is after a call: its words in their place, if there is one and room for it.
 -- Assumes nothing.
+use Rattle.std.specs.Prelude.{Option, Some, None}
 use mathlib.Core.Bool.{Bool, true, false, cond, ◌&&◌, and-false}
 use mathlib.Core.List.{List, [], ◌∷◌, ◌++◌, append_assoc}
 use mathlib.Core.Path.{◌≡◌, refl, sym, ap, ◌∙◌}
@@ -12,7 +13,6 @@ use lib.Dec.{ltb}
 use lib.ListN.{length, get_or, set, drop, length-append}
 use lib.Seq.{drop-cons, set_at}
 use Rattle.protocol.specs.declared.Call.{Call}
-use Rattle.protocol.specs.declared.Call.TheVariants.{None, SaveFor, SwapFor, ResumeFor}
 use Rattle.protocol.specs.declared.CallWords.{CallWords}
 use Rattle.run_log.specs.Log.{too_short, asks, goes_in, with_call, logged, calls_logged, call_log}
 
@@ -36,13 +36,11 @@ by_sixths words ticks enough =
     ]
 
 -- a call other than `None`
-pub asked : (call : Call) → (call ≡ None → ⊥) → asks call ≡ true
+pub asked : (call : Option Call) → (call ≡ None → ⊥) → asks call ≡ true
 asked None k = absurd (k refl)
-asked (SaveFor q) k = refl
-asked (SwapFor q) k = refl
-asked (ResumeFor q) k = refl
+asked (Some call) k = refl
 
-module _ (log : List ℕ) (calls : ℕ) (call : Call) where
+module _ (log : List ℕ) (calls : ℕ) (call : Option Call) where
   pub no_room : length log / 2 ≤ calls → goes_in log calls call ≡ false
   no_room full = ap (λ (b : Bool). asks call && b) (le-ltb calls (length log / 2) full) ∙ and-false (asks call)
 

@@ -4,7 +4,7 @@
 ghost use Rattle.std.specs.Prelude.{◌≡◌};
 ghost use Rattle.run_log.specs.Log.{too_short, calls_logged, logged};
 
-use protocol::Call;
+use protocol::{Call, call_words};
 
 // Words that a log needs with no tick, and with each tick.
 const FIRST: usize = 4;
@@ -25,16 +25,16 @@ pub fn too_short(words: usize, ticks: usize) -> bool
 }
 
 // The log with one call more, after so many; no call, or no room for one, leaves it as it is. How many calls it then has.
-pub fn put_call(log: &mut [u32], calls: usize, call: Call) -> usize
+pub fn put_call(log: &mut [u32], calls: usize, call: Option<Call>) -> usize
     ensures { (result ≡ calls_logged log.old calls call) × (log.new ≡ logged log.old calls call) }
 {
-    if let Call::None = call {
+    if call.is_none() {
         return calls;
     }
     if log.len() / CALL <= calls {
         return calls;
     }
-    let words = call.words();
+    let words = call_words(call);
     let at = calls * CALL;
     log[at] = words.number;
     log[at + 1] = words.partition;

@@ -9,34 +9,34 @@ use native.Mathlib.Decide.{ℕ_discrete}
 use borrow.Author.Tests.{eq-eqb, ne_eqb, not-true}
 use Rattle.refusal.specs.declared.Refusal.{Refusal}
 use Rattle.refusal.specs.declared.Refusal.TheVariants.{NoCallOpen}
-use Rattle.refusal.specs.declared.Verdict.TheVariants.{Accepted, Refused}
+use Rattle.refusal.specs.Verdict.{accepted}
+use Rattle.std.specs.Prelude.{None, Err}
 use Rattle.refusal.specs.First.{refuse_if, or_else}
 use Rattle.verdict.proofs.First.{fault_found, own_refusal, one_refuses}
-use Rattle.switcher.specs.declared.SwPhase.TheVariants.{SaveCtx}
+use Rattle.protocol.specs.declared.Stage.TheVariants.{SaveCtx}
 use Rattle.switcher.specs.declared.Switcher.{Switcher}
 use Rattle.switcher.specs.Switch.{in_phase, state_verdict, saved, swapped_in, resumed}
 use Rattle.switcher.proofs.SwitchLaws.{in_phase_lem}
-use Rattle.run_switch.specs.declared.SeamCall.TheVariants.{NotMade}
 use Rattle.run_switch.specs.declared.Switched.{Switched}
 use Rattle.run_switch.specs.Seam.{calls_words}
 use Rattle.run_switch.specs.RunSwitch.{switch_verdict, calls_made, calls_of, left_after, outgoing_of, incoming_of, run_switch_of}
 
 module _ (s : Switcher) where
-  pub switch_refused : (r : Refusal) → state_verdict s ≡ Refused r → switch_verdict s ≡ Refused r
+  pub switch_refused : (r : Refusal) → state_verdict s ≡ Err r → switch_verdict s ≡ Err r
   unfolding switch_verdict or_else
   switch_refused r e = rw e
 
-  pub switch_outside : state_verdict s ≡ Accepted → in_phase s.phase SaveCtx ≡ false → switch_verdict s ≡ Refused NoCallOpen
+  pub switch_outside : state_verdict s ≡ accepted → in_phase s.phase SaveCtx ≡ false → switch_verdict s ≡ Err NoCallOpen
   unfolding switch_verdict or_else refuse_if
   switch_outside e h = rw (e, h)
 
-  pub switch_due : state_verdict s ≡ Accepted → in_phase s.phase SaveCtx ≡ true → switch_verdict s ≡ Accepted
+  pub switch_due : state_verdict s ≡ accepted → in_phase s.phase SaveCtx ≡ true → switch_verdict s ≡ accepted
   unfolding switch_verdict or_else refuse_if
   switch_due e h = rw (e, h)
 
   -- so it refuses as the state does, or else with 13
-  pub switch_refuses : (r : Refusal) → switch_verdict s ≡ Refused r
-      → (state_verdict s ≡ Refused r) ⊎ ((state_verdict s ≡ Accepted) × (NoCallOpen ≡ r) × (s.phase ≡ SaveCtx → ⊥))
+  pub switch_refuses : (r : Refusal) → switch_verdict s ≡ Err r
+      → (state_verdict s ≡ Err r) ⊎ ((state_verdict s ≡ accepted) × (NoCallOpen ≡ r) × (s.phase ≡ SaveCtx → ⊥))
   unfolding switch_verdict
   switch_refuses r e =
       ⊎_map (λ q. q)
@@ -63,7 +63,7 @@ module _ (outgoing incoming : ℕ) where
 
 -- the answer of an accepted switch, by the state it ends in and how many calls it made
 abbrev pub ended : (state end : Switcher) (made : ℕ) → Switched
-ended s end made = record { state = end; calls = calls_of made (outgoing_of s) (incoming_of s); verdict = Accepted }
+ended s end made = record { state = end; calls = calls_of made (outgoing_of s) (incoming_of s); verdict = accepted }
 
 -- a switch that is refused makes no call, and the state comes back
 module _ (s : Switcher) (save swap resume : ℕ) where
@@ -71,14 +71,14 @@ module _ (s : Switcher) (save swap resume : ℕ) where
   unfolding run_switch_of
   run_verdict_lem = refl
 
-  pub run_refused : (r : Refusal) → switch_verdict s ≡ Refused r
+  pub run_refused : (r : Refusal) → switch_verdict s ≡ Err r
       → run_switch_of s save swap resume
-      ≡ record { state = s; calls = record { first = NotMade; second = NotMade; third = NotMade }; verdict = Refused r }
+      ≡ record { state = s; calls = None ∷ None ∷ None ∷ []; verdict = Err r }
   unfolding run_switch_of calls_made left_after calls_of
   run_refused r e = rw e
 
   -- one that is accepted is one of four: the save, the swap, the resume is the first to get a nonzero status, or each got zero
-  pub run_switches : (P : Switched → Type 0) → switch_verdict s ≡ Accepted
+  pub run_switches : (P : Switched → Type 0) → switch_verdict s ≡ accepted
       → ((save ≡ 0 → ⊥) → P (ended s s 1))
       → (save ≡ 0 → (swap ≡ 0 → ⊥) → P (ended s (saved s) 2))
       → (save ≡ 0 → swap ≡ 0 → (resume ≡ 0 → ⊥) → P (ended s (swapped_in (saved s)) 3))

@@ -2,7 +2,8 @@
 -- Assumes nothing.
 use mathlib.Core.Path.{◌≡◌}
 use Rattle.refusal.specs.declared.Refusal.{Refusal}
-use Rattle.refusal.specs.declared.Verdict.TheVariants.{Accepted, Refused}
+use Rattle.refusal.specs.Verdict.{accepted}
+use Rattle.std.specs.Prelude.{Err}
 use Rattle.plan.specs.Plan.{Plan}
 use Rattle.plan.specs.Faults.{verdict_of}
 use Rattle.state.specs.State.{zeros}
@@ -10,10 +11,10 @@ use Rattle.state.specs.Answer.{refused_answer}
 use Rattle.state.specs.Start.{if_accepted, cold_move, cold_of}
 
 module _ (p : Plan) where
-  pub cold_refused : (r : Refusal) → verdict_of p ≡ Refused r → cold_of p ≡ refused_answer zeros (Refused r)
+  pub cold_refused : (r : Refusal) → verdict_of p ≡ Err r → cold_of p ≡ refused_answer zeros (Err r)
   unfolding cold_of if_accepted
   cold_refused r e = rw e
 
-  pub cold_accepted : verdict_of p ≡ Accepted → cold_of p ≡ cold_move p.windows
+  pub cold_accepted : verdict_of p ≡ accepted → cold_of p ≡ cold_move p.windows
   unfolding cold_of if_accepted
   cold_accepted e = rw e

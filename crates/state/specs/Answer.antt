@@ -1,12 +1,10 @@
 -- The answers that the machine makes (document 01, "The machine"): the state after the event and the call, or a refusal.
-use Rattle.std.specs.Prelude.{List, ℕ}
-use Rattle.refusal.specs.declared.Verdict.{Verdict}
-use Rattle.refusal.specs.declared.Verdict.TheVariants.{Accepted}
+use Rattle.std.specs.Prelude.{Option, None, List, ℕ}
+use Rattle.refusal.specs.Verdict.{Verdict, accepted}
 use Rattle.records.specs.declared.PartitionNo.{PartitionNo}
 use Rattle.records.specs.declared.WindowNo.{WindowNo}
 use Rattle.records.specs.Records.{nth_window}
 use Rattle.protocol.specs.declared.Call.{Call}
-use Rattle.protocol.specs.declared.Call.TheVariants.{None}
 use Rattle.protocol.specs.declared.Stage.{Stage}
 use Rattle.protocol.specs.declared.Cause.{Cause}
 use Rattle.state.specs.declared.State.{State}
@@ -17,8 +15,8 @@ use Rattle.state.specs.State.{stopped}
 abbrev pub owner : List ℕ → WindowNo → PartitionNo
 owner windows w = (nth_window windows w.0).owner
 
-abbrev pub moved : State → Call → Answer
-moved s call = record { state = s; call = call; verdict = Accepted }
+abbrev pub moved : State → Option Call → Answer
+moved s call = record { state = s; call = call; verdict = accepted }
 
 -- nothing is asked
 abbrev pub quiet : State → Answer

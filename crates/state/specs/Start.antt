@@ -1,7 +1,7 @@
 -- What a cold start answers (document 01, "The machine" and "Refusal numbers and their place": "a refusal hands back the state it got; where
 -- none was given, a state of zeros in Running with `swapped` false; ... no call asked").
-use Rattle.std.specs.Prelude.{List, ℕ}
-use Rattle.refusal.specs.declared.Verdict.{Verdict}
+use Rattle.std.specs.Prelude.{Some, List, ℕ}
+use Rattle.refusal.specs.Verdict.{Verdict}
 use Rattle.verdict.specs.First.{unless_refused}
 use Rattle.plan.specs.Plan.{Plan}
 use Rattle.plan.specs.Faults.{verdict_of}
@@ -17,7 +17,7 @@ if_accepted verdict s to = unless_refused verdict to (refused_answer s verdict)
 
 -- "Cold start: ... asks swap(owner of 0)"
 unfoldable pub cold_move : List ℕ → Answer
-cold_move windows = moved cold (SwapFor (owner windows cold.target))
+cold_move windows = moved cold (Some (SwapFor (owner windows cold.target)))
 
 unfoldable pub cold_of : Plan → Answer
 cold_of p = if_accepted (verdict_of p) zeros (cold_move p.windows)

@@ -21,10 +21,10 @@ pub struct State {
     pub phase: Phase,
 }
 
-// The state after the event, and the call to make; or why not, with the state as it came.
+// The state after the event, and the call to make; or why not, with the state as it came (document 01: a refusal hands it back), so no `Result`.
 #[derive(Clone, Copy)]
 pub struct Answer {
     pub state: State,
-    pub call: Call,
+    pub call: Option<Call>,
     pub verdict: Verdict,
 }

@@ -26,29 +26,17 @@ impl State {
     pub fn ticked(self, due: u32) -> State
         ensures { result ≡ ticked self due }
     {
-        let current = self.current;
-        let target = self.target;
-        let phase = self.phase;
-        State {
-            current,
-            target,
-            due,
-            swapped: self.swapped,
-            phase,
-        }
+        State { due, ..self }
     }
 
     // The target's owner runs.
     pub fn resumed(self) -> State
         ensures { result ≡ resumed self }
     {
-        let target = self.target;
         State {
-            current: target,
-            target,
-            due: self.due,
-            swapped: self.swapped,
+            current: self.target,
             phase: Phase::At(Stage::Running),
+            ..self
         }
     }
 
@@ -58,27 +46,25 @@ impl State {
     {
         Answer {
             state: self,
-            call: Call::None, // the host has nothing to do
-            verdict: Verdict::Accepted, // and nothing was wrong
+            call: None, // the host has nothing to do
+            verdict: Ok(()), // and nothing was wrong
         }
     }
 
     // The call is open.
-    pub fn ask(self, stage: Stage, target: WindowNo, swapped: bool, call: Call) -> Answer
+    pub fn ask(self, stage: Stage, target: WindowNo, swapped: bool, call: Option<Call>) -> Answer
         ensures { result ≡ moved (asked self stage target swapped) call }
     {
-        let current = self.current; // until the resume is answered
         let state = State {
-            current,
             target,
-            due: self.due,
             swapped,
             phase: Phase::At(stage),
+            ..self // who runs stays current until the resume is answered
         };
         Answer {
             state,
             call,
-            verdict: Verdict::Accepted,
+            verdict: Ok(()),
         }
     }
 
@@ -86,16 +72,8 @@ impl State {
     pub fn stop(self, stage: Stage, cause: Cause) -> Answer
         ensures { result ≡ stop self stage cause }
     {
-        let current = self.current;
-        let target = self.target;
-        let state = State {
-            current,
-            target,
-            due: self.due, // its tick is not taken
-            swapped: self.swapped,
-            phase: Phase::Stopped(stage, cause),
-        };
-        state.quiet()
+        let phase = Phase::Stopped(stage, cause);
+        State { phase, ..self }.quiet() // its tick is not taken
     }
 
     // The state as it came.
@@ -104,7 +82,7 @@ impl State {
     {
         Answer {
             state: self,
-            call: Call::None, // what was open stays open
+            call: None, // what was open stays open
             verdict,
         }
     }

@@ -4,40 +4,38 @@
 #![tactic(auto)]
 
 ghost use Rattle.std.specs.Prelude.{◌≡◌};
-ghost use Rattle.plan.specs.Plan.{plan_of};
 ghost use Rattle.machine.specs.Machine.{tick_of, status_of};
 
-use crate::step::{status_at, tick_at};
+use crate::step::{Timetable, status_at, tick_at};
 use guard::guard;
-use plan::Frame;
-use refusal::Verdict;
+use plan::Plan;
 use state::{Answer, State};
 
 mod step;
 
-#[tactic(auto, using(verdict::proofs::First::answers, machine::proofs::GuardLaws::plan_accepted, machine::proofs::MachineLaws::tick_refused, machine::proofs::MachineLaws::tick_let_in))]
-pub fn tick(state: State, frame: Frame, windows: &[u32], rows: &[u32], t: u32) -> Answer
-    ensures { result ≡ tick_of (plan_of frame windows.now rows.now) state t }
+#[tactic(auto, using(machine::proofs::MachineLaws::tick_refused, machine::proofs::MachineLaws::tick_let_in))]
+pub fn tick(state: State, plan: &Plan<'_>, t: u32) -> Answer
+    ensures { result ≡ tick_of plan.now state t }
 {
-    let guarded = guard(state, frame, windows, rows);
-    let stage = guarded.stage;
-    let count = guarded.count;
-    let verdict = guarded.verdict;
-    let Verdict::Accepted = verdict else {
-        return state.refused(verdict);
-    };
-    tick_at(state, stage, frame.length, count, windows, t)
+    match guard(state, plan) {
+        Ok(at) => {
+            let tt = Timetable {
+                length: plan.length(),
+                count: at.count,
+                windows: plan.windows(),
+            };
+            tick_at(state, at.stage, tt, t)
+        }
+        Err(r) => state.refused(Err(r)),
+    }
 }
 
 #[tactic(auto, using(machine::proofs::MachineLaws::status_refused, machine::proofs::MachineLaws::status_let_in))]
-pub fn status(state: State, frame: Frame, windows: &[u32], rows: &[u32], word: u32) -> Answer
-    ensures { result ≡ status_of (plan_of frame windows.now rows.now) state word }
+pub fn status(state: State, plan: &Plan<'_>, word: u32) -> Answer
+    ensures { result ≡ status_of plan.now state word }
 {
-    let guarded = guard(state, frame, windows, rows);
-    let stage = guarded.stage;
-    let verdict = guarded.verdict;
-    let Verdict::Accepted = verdict else {
-        return state.refused(verdict);
-    };
-    status_at(state, stage, windows, word)
+    match guard(state, plan) {
+        Ok(at) => status_at(state, at.stage, plan.windows(), word),
+        Err(r) => state.refused(Err(r)),
+    }
 }

@@ -4,9 +4,17 @@ ghost use Rattle.machine.specs.Step.{timetable, last_tick, save, tick_taken, tic
 
 use protocol::{Call, Cause, Stage};
 use records::{WindowNo, nth_window, window_end};
-use refusal::{Refusal, Verdict};
+use refusal::Refusal;
 use state::{Answer, State};
-use timeline::{next_tick, next_window};
+use timeline::next_of;
+
+// What the machine knows of a plan: never the rows.
+#[derive(Clone, Copy)]
+pub(crate) struct Timetable<'a> {
+    pub length: u32,
+    pub count: u32,
+    pub windows: &'a [u32],
+}
 
 fn last_tick(windows: &[u32], w: WindowNo, t: u32) -> bool
     ensures { result ≡ last_tick windows.now w t }
@@ -16,38 +24,31 @@ fn last_tick(windows: &[u32], w: WindowNo, t: u32) -> bool
 }
 
 // Who runs has to go.
-fn save(state: State, count: u32, windows: &[u32]) -> Answer
-    ensures { result ≡ save count windows.now state }
+fn save(state: State, tt: Timetable<'_>) -> Answer
+    ensures { result ≡ save tt.entry.count tt.entry.windows.now state }
 {
     let current = state.current;
-    let owner = nth_window(windows, current).owner;
-    let target = WindowNo(next_window(count, current.0));
-    state.ask(Stage::SaveCtx, target, false, Call::SaveFor(owner))
+    let owner = nth_window(tt.windows, current).owner;
+    let target = WindowNo(next_of(tt.count, current.0));
+    state.ask(Stage::SaveCtx, target, false, Some(Call::SaveFor(owner)))
 }
 
 // The due tick, Running: at the window's last tick the switch begins.
 #[tactic(auto, using(machine::proofs::StepLaws::taken_last))]
-fn tick_taken(state: State, length: u32, count: u32, windows: &[u32], t: u32) -> Answer
-    ensures { result ≡ tick_taken (timetable length count windows.now) state t }
+fn tick_taken(state: State, tt: Timetable<'_>, t: u32) -> Answer
+    ensures { result ≡ tick_taken (timetable tt.entry.length tt.entry.count tt.entry.windows.now) state t }
 {
-    let last = last_tick(windows, state.current, t);
-    let taken = state.ticked(next_tick(length, t));
+    let last = last_tick(tt.windows, state.current, t);
+    let taken = state.ticked(next_of(tt.length, t));
     if last {
-        return save(taken, count, windows);
+        return save(taken, tt);
     }
     taken.quiet()
 }
 
 #[tactic(auto, using(machine::proofs::StepLaws::at_wrong))]
-pub(crate) fn tick_at(
-    state: State,
-    stage: Stage,
-    length: u32,
-    count: u32,
-    windows: &[u32],
-    t: u32,
-) -> Answer
-    ensures { result ≡ tick_at (timetable length count windows.now) state stage t }
+pub(crate) fn tick_at(state: State, stage: Stage, tt: Timetable<'_>, t: u32) -> Answer
+    ensures { result ≡ tick_at (timetable tt.entry.length tt.entry.count tt.entry.windows.now) state stage t }
 {
     if stage.call_open() {
         return state.stop(stage, Cause::TickInSwitch(t));
@@ -55,7 +56,7 @@ pub(crate) fn tick_at(
     if t != state.due {
         return state.stop(stage, Cause::WrongTick(t));
     }
-    tick_taken(state, length, count, windows, t)
+    tick_taken(state, tt, t)
 }
 
 // A zero for the call that is open: who comes gets its regions, then it may run, then it runs.
@@ -65,18 +66,17 @@ fn zero_at(state: State, stage: Stage, windows: &[u32]) -> Answer
 {
     let target = state.target;
     let owner = nth_window(windows, target).owner;
-    if let Stage::SaveCtx = stage {
-        return state.ask(
-            Stage::ProgramRegions,
-            target,
-            state.swapped,
-            Call::SwapFor(owner),
-        );
+    match stage {
+        Stage::SaveCtx => {
+            let swap = Some(Call::SwapFor(owner));
+            state.ask(Stage::ProgramRegions, target, state.swapped, swap)
+        }
+        Stage::ProgramRegions => {
+            let resume = Some(Call::ResumeFor(owner));
+            state.ask(Stage::Resume, target, true, resume)
+        }
+        Stage::Resume | Stage::Running => state.resumed().quiet(),
     }
-    if let Stage::ProgramRegions = stage {
-        return state.ask(Stage::Resume, target, true, Call::ResumeFor(owner));
-    }
-    state.resumed().quiet()
 }
 
 // A status word answers the call that is open, if one is.
@@ -84,7 +84,7 @@ pub(crate) fn status_at(state: State, stage: Stage, windows: &[u32], word: u32) 
     ensures { result ≡ status_at windows.now state stage word }
 {
     if !stage.call_open() {
-        return state.refused(Verdict::Refused(Refusal::NoCallOpen));
+        return state.refused(Err(Refusal::NoCallOpen));
     }
     if word == 0 {
         return zero_at(state, stage, windows);

@@ -2,14 +2,15 @@
 -- as document 01 orders them: the frame's 2, 3 or 5, then 17 where `inv` is false.
 use Rattle.std.specs.Prelude.{Bool, true, false, not, cond, ◌&&◌, List, [], ◌∷◌, ◌≡◌, ℕ, ◌+◌, ◌<◌, eqb, ltb}
 use Rattle.refusal.specs.declared.Refusal.TheVariants.{StrangeState}
-use Rattle.refusal.specs.declared.Verdict.{Verdict}
-use Rattle.refusal.specs.declared.Verdict.TheVariants.{Accepted, Refused}
+use Rattle.refusal.specs.Verdict.{Verdict, accepted}
+use Rattle.std.specs.Prelude.{Ok, Err}
 use Rattle.refusal.specs.First.{refuse_if, or_else}
 use Rattle.timeline.specs.Windows.{next_window}
 use Rattle.major_frame.specs.declared.MajorFrame.{MajorFrame}
 use Rattle.major_frame.specs.Frame.{FrameInv, win_end, frame_verdict}
-use Rattle.switcher.specs.declared.SwPhase.{SwPhase}
-use Rattle.switcher.specs.declared.SwPhase.TheVariants.{Running, SaveCtx, ProgramRegions, Resume}
+use Rattle.protocol.specs.declared.Stage.{Stage}
+use Rattle.protocol.specs.declared.Stage.TheVariants.{Running, SaveCtx, ProgramRegions, Resume}
+use Rattle.protocol.specs.Numbers.{stage_number}
 use Rattle.switcher.specs.declared.Switcher.{Switcher}
 use Rattle.switcher.specs.declared.Made.{Made}
 use Rattle.switcher.specs.declared.Stepped.{Stepped}
@@ -26,19 +27,12 @@ pub record Inv (s : Switcher) : Type 0 where
 abbrev pub Boundary : Switcher → ℕ → Type 0
 Boundary s t = t + 1 ≡ win_end s.frame s.cur
 
--- the phases in the order of a switch
-abbrev pub phase_number : SwPhase → ℕ
-phase_number Running = 0
-phase_number SaveCtx = 1
-phase_number ProgramRegions = 2
-phase_number Resume = 3
-
 -- the two are one phase
-unfoldable pub in_phase : SwPhase → SwPhase → Bool
-in_phase p q = eqb (phase_number p) (phase_number q)
+unfoldable pub in_phase : Stage → Stage → Bool
+in_phase p q = eqb (stage_number p) (stage_number q)
 
 -- what `inv` asks of the mark
-abbrev pub mark_fits : SwPhase → Bool → Bool
+abbrev pub mark_fits : Stage → Bool → Bool
 mark_fits Running mark = true
 mark_fits SaveCtx mark = not mark
 mark_fits ProgramRegions mark = not mark
@@ -63,7 +57,7 @@ zeros =
     let none : List ℕ = 0 ∷ 0 ∷ 0 ∷ 0 ∷ [] in
     started (record { partition_id = none; offset = none; budget = none; frame_len = 0 })
 
-abbrev pub moved : Switcher → ℕ → SwPhase → Bool → Switcher
+abbrev pub moved : Switcher → ℕ → Stage → Bool → Switcher
 moved s cur phase mark = record { frame = s.frame; cur = cur; phase = phase; swapped = mark }
 
 abbrev pub preempted : Switcher → Switcher
@@ -80,16 +74,16 @@ resumed s = moved s (next_window 4 s.cur) Running s.swapped
 
 -- `new`: window 0, Running, the mark false; a refused frame gives zeros
 unfoldable pub made : Verdict → MajorFrame → Made
-made Accepted f = record { state = started f; verdict = Accepted }
-made (Refused r) f = record { state = zeros; verdict = Refused r }
+made (Ok _) f = record { state = started f; verdict = accepted }
+made (Err r) f = record { state = zeros; verdict = Err r }
 
 unfoldable pub new_of : MajorFrame → Made
 new_of f = made (frame_verdict f) f
 
 -- a refused state comes back as it came; an accepted one moves on if the step is due
 abbrev pub moves : Verdict → (due : Bool) → Bool
-moves Accepted due = due
-moves (Refused r) due = false
+moves (Ok _) due = due
+moves (Err r) due = false
 
 unfoldable pub stepped : Verdict → (state next : Switcher) → (due : Bool) → Stepped
 stepped v s next due = record { state = cond (moves v due) next s; done = moves v due; verdict = v }

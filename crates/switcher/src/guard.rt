@@ -4,7 +4,7 @@ ghost use Rattle.switcher.specs.Switch.{mark_fits, state_verdict};
 
 use crate::{SwPhase, Switcher};
 use major_frame::WINDOWS;
-use refusal::{Refusal, Verdict, or_refuse};
+use refusal::{Refusal, Verdict};
 
 // What `inv` asks of the mark: set in Resume, clear before.
 fn mark_fits(phase: SwPhase, swapped: bool) -> bool
@@ -12,22 +12,21 @@ fn mark_fits(phase: SwPhase, swapped: bool) -> bool
 {
     match phase {
         SwPhase::Running => true,
-        SwPhase::SaveCtx => !swapped,
-        SwPhase::ProgramRegions => !swapped,
+        SwPhase::SaveCtx | SwPhase::ProgramRegions => !swapped,
         SwPhase::Resume => swapped,
     }
 }
 
 impl Switcher {
     // 2, 3 or 5 for the frame, else 17 where `inv` is false.
-    #[tactic(auto, unfolding(crate::specs::Switch::state_verdict))]
+    #[tactic(auto, using(crate::proofs::SwitchLaws::frame_refused), unfolding(crate::specs::Switch::state_verdict, refusal::specs::First::or_else, refusal::specs::First::refuse_if))]
     pub fn check(self) -> Verdict
         ensures { result ≡ state_verdict self }
     {
-        let phase = self.phase;
-        let marked = mark_fits(phase, self.swapped);
-        let in_frame = self.cur < WINDOWS;
-        let verdict = or_refuse(self.frame.check(), in_frame, Refusal::StrangeState);
-        or_refuse(verdict, marked, Refusal::StrangeState)
+        self.frame.check()?;
+        if self.cur >= WINDOWS || !mark_fits(self.phase, self.swapped) {
+            return Err(Refusal::StrangeState);
+        }
+        Ok(())
     }
 }

@@ -2,35 +2,13 @@
 // one way. Every function takes any state; a refused one comes back as it came. A whole switch is crate `run_switch`.
 #![tactic(auto)]
 
-ghost use Rattle.std.specs.Prelude.{◌≡◌};
-ghost use Rattle.switcher.specs.Switch.{phase_number, in_phase};
-
 use major_frame::MajorFrame;
+// where the switch is: a partition runs, or one of the three calls is open
+pub use protocol::Stage as SwPhase;
 use refusal::Verdict;
 
 mod guard;
 mod steps;
-
-// Where the switch is: a partition runs, or one of the three calls is open.
-#[derive(Clone, Copy)]
-pub enum SwPhase {
-    Running,
-    SaveCtx,
-    ProgramRegions,
-    Resume,
-}
-
-// The phases in the order of a switch.
-pub fn phase_number(phase: SwPhase) -> u32
-    ensures { result ≡ phase_number phase }
-{
-    match phase {
-        SwPhase::Running => 0,
-        SwPhase::SaveCtx => 1,
-        SwPhase::ProgramRegions => 2,
-        SwPhase::Resume => 3,
-    }
-}
 
 #[derive(Clone, Copy)]
 pub struct Switcher {
@@ -40,24 +18,17 @@ pub struct Switcher {
     pub swapped: bool,
 }
 
-// What `new` answers.
+// What `new` answers: a state of zeros where it refuses (document 01), so no `Result`.
 #[derive(Clone, Copy)]
 pub struct Made {
     pub state: Switcher,
     pub verdict: Verdict,
 }
 
-// What `tick` and the marks answer; `done` is the original's `switched` and `ok`.
+// What `tick` and the marks answer: the state as it came where they refuse (document 01), so no `Result`; `done` is the original's `switched` and `ok`.
 #[derive(Clone, Copy)]
 pub struct Stepped {
     pub state: Switcher,
     pub done: bool,
     pub verdict: Verdict,
-}
-
-#[tactic(auto, unfolding(crate::specs::Switch::in_phase))]
-pub fn in_phase(phase: SwPhase, other: SwPhase) -> bool
-    ensures { result ≡ in_phase phase other }
-{
-    phase_number(phase) == phase_number(other)
 }

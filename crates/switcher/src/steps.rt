@@ -1,126 +1,103 @@
 // How a switch begins and goes on: `new`, `tick` and the three marks.
-ghost use Rattle.std.specs.Prelude.{cond, ◌&&◌, ◌≡◌};
-ghost use Rattle.switcher.specs.Switch.{in_phase, state_verdict, zeros, moves, moved, stepped, new_of, tick_of, mark_saved_of, mark_swapped_of, mark_resumed_of};
+ghost use Rattle.std.specs.Prelude.{◌≡◌};
+ghost use Rattle.switcher.specs.Switch.{state_verdict, moves, stepped, new_of, tick_of, mark_saved_of, mark_swapped_of, mark_resumed_of};
 
-use crate::{Made, Stepped, SwPhase, Switcher, in_phase};
-use major_frame::{MajorFrame, WINDOWS};
+use crate::{Made, Stepped, SwPhase, Switcher};
+use major_frame::{MAX_WINDOWS, MajorFrame, WINDOWS};
 use refusal::Verdict;
-use timeline::next_window;
+use timeline::next_of;
 
-// A step is taken from an accepted state that is in the step's phase, if it is due.
-fn moves(verdict: Verdict, ready: bool, due: bool) -> bool
-    ensures { result ≡ moves verdict (due && ready) }
-{
-    let Verdict::Accepted = verdict else {
-        return false;
-    };
-    due && ready
-}
+// What stands in place of a frame that is refused.
+const ZEROS: MajorFrame = MajorFrame {
+    partition_id: [0; MAX_WINDOWS],
+    offset: [0; MAX_WINDOWS],
+    budget: [0; MAX_WINDOWS],
+    frame_len: 0,
+};
 
-// What `new` answers in place of a state where it refuses the frame.
-fn zeros() -> Switcher
-    ensures { result ≡ zeros }
+// A step is taken from an accepted state, if it is due.
+fn moves(verdict: Verdict, due: bool) -> bool
+    ensures { result ≡ moves verdict due }
 {
-    let frame = MajorFrame {
-        partition_id: [0, 0, 0, 0],
-        offset: [0, 0, 0, 0],
-        budget: [0, 0, 0, 0],
-        frame_len: 0,
-    };
-    Switcher {
-        frame,
-        cur: 0,
-        phase: SwPhase::Running,
-        swapped: false,
+    match verdict {
+        Ok(()) => due,
+        Err(_) => false,
     }
 }
 
 impl Switcher {
+    // Where the frame is refused, a state of zeros.
     #[tactic(auto, using(crate::proofs::SwitchLaws::new_refused, crate::proofs::SwitchLaws::new_started))]
     pub fn new(frame: MajorFrame) -> Made
         ensures { result ≡ new_of frame }
     {
         let verdict = frame.check();
-        let Verdict::Accepted = verdict else {
-            return Made {
-                state: zeros(),
-                verdict,
-            };
-        };
+        let frame = if verdict.is_ok() { frame } else { ZEROS };
         let state = Switcher {
             frame,
             cur: 0,
             phase: SwPhase::Running,
             swapped: false, // nothing is programmed yet
         };
-        Made {
-            state,
-            verdict: Verdict::Accepted,
-        }
+        Made { state, verdict }
     }
 
-    // The state after a step, which is taken or not.
-    fn moved_if(self, taken: bool, cur: u32, phase: SwPhase, swapped: bool) -> Switcher
-        ensures { result ≡ cond taken (moved self cur phase swapped) self }
-    {
-        if taken {
-            let frame = self.frame;
-            Switcher {
-                frame,
-                cur,
-                phase,
-                swapped,
-            }
-        } else {
-            self
-        }
-    }
-
-    // The guard of every step: a refused state comes back, an accepted one moves on if it is in the phase `from` and
-    // the step is due.
+    // The guard of every step: a refused state comes back, an accepted one moves on to `next` if the step is due.
     #[tactic(auto, unfolding(crate::specs::Switch::stepped))]
-    fn step(self, from: SwPhase, due: bool, cur: u32, phase: SwPhase, swapped: bool) -> Stepped
-        ensures { result ≡ stepped (state_verdict self) self (moved self cur phase swapped) (due && in_phase self.phase from) }
+    fn step(self, due: bool, next: Switcher) -> Stepped
+        ensures { result ≡ stepped (state_verdict self) self next due }
     {
-        let own = self.phase;
         let verdict = self.check();
-        let done = moves(verdict, in_phase(own, from), due);
-        let state = self.moved_if(done, cur, phase, swapped);
+        let done = moves(verdict, due);
         Stepped {
-            state,
+            state: if done { next } else { self },
             done,
             verdict,
         }
     }
 
-    // Running at the window's last tick, the switch begins; any other tick changes nothing. What is programmed is for the
-    // partition that goes, so the mark is cleared.
-    #[tactic(auto, unfolding(crate::specs::Switch::at_boundary))]
+    // Running at the window's last tick, the switch begins; any other tick changes nothing.
+    #[tactic(auto, unfolding(crate::specs::Switch::at_boundary, crate::specs::Switch::in_phase))]
     pub fn tick(self, t: u32) -> Stepped
         ensures { result ≡ tick_of self t }
     {
         let last = self.frame.is_last_tick(self.cur, t);
-        self.step(SwPhase::Running, last, self.cur, SwPhase::SaveCtx, false)
+        let next = Switcher {
+            phase: SwPhase::SaveCtx,
+            swapped: false, // what is programmed is for the partition that goes
+            ..self
+        };
+        self.step(last && self.phase == SwPhase::Running, next)
     }
 
+    #[tactic(auto, unfolding(crate::specs::Switch::in_phase))]
     pub fn mark_saved(self) -> Stepped
         ensures { result ≡ mark_saved_of self }
     {
-        let next = SwPhase::ProgramRegions;
-        self.step(SwPhase::SaveCtx, true, self.cur, next, self.swapped)
+        let phase = SwPhase::ProgramRegions;
+        let due = self.phase == SwPhase::SaveCtx;
+        self.step(due, Switcher { phase, ..self })
     }
 
+    #[tactic(auto, unfolding(crate::specs::Switch::in_phase))]
     pub fn mark_swapped(self) -> Stepped
         ensures { result ≡ mark_swapped_of self }
     {
-        let next = SwPhase::Resume;
-        self.step(SwPhase::ProgramRegions, true, self.cur, next, true)
+        let next = Switcher {
+            phase: SwPhase::Resume,
+            swapped: true,
+            ..self
+        };
+        self.step(self.phase == SwPhase::ProgramRegions, next)
     }
 
+    #[tactic(auto, unfolding(crate::specs::Switch::in_phase))]
     pub fn mark_resumed(self) -> Stepped
         ensures { result ≡ mark_resumed_of self }
     {
-        let cur = next_window(WINDOWS, self.cur);
-        self.step(SwPhase::Resume, true, cur, SwPhase::Running, self.swapped)
+        let cur = next_of(WINDOWS, self.cur);
+        let phase = SwPhase::Running;
+        let due = self.phase == SwPhase::Resume;
+        self.step(due, Switcher { cur, phase, ..self })
     }
 }

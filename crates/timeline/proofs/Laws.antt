@@ -10,7 +10,7 @@ use native.Mathlib.Decide.{dec_lt, ℕ_discrete}
 use native.Mathlib.Omega.{arith}
 use borrow.Author.Tests.{le-leb, lt-leb, lt-ltb, le-ltb, leb-true, ltb-true}
 use lib.Dec.{leb, ltb}
-use Rattle.timeline.specs.Windows.{Follow, Holds, OnlyWindow, holdsb, window_at, next_window, next_tick}
+use Rattle.timeline.specs.Windows.{Follow, Holds, OnlyWindow, holdsb, window_at, next_of, next_window, next_tick}
 
 -- the test and the statement agree
 pub holdsb_true : (offset budget : ℕ → ℕ) (i t : ℕ) → Holds offset budget i t → holdsb offset budget i t ≡ true
@@ -45,21 +45,13 @@ only_found (suc n) offset budget t i k h only =
     ]
 
 -- the next window and the next tick, by whether there is one
-pub next_window_below : (n i : ℕ) → i + 1 < n → next_window n i ≡ i + 1
-unfolding next_window
-next_window_below n i h = rw (lt-ltb (suc i) n (omega arith)) (omega arith)
+pub next_below : (count n : ℕ) → n + 1 < count → next_of count n ≡ n + 1
+unfolding next_of
+next_below count n h = rw (lt-ltb (suc n) count (omega arith)) (omega arith)
 
-pub next_window_past : (n i : ℕ) → n ≤ i + 1 → next_window n i ≡ 0
-unfolding next_window
-next_window_past n i h = rw (le-ltb (suc i) n (omega arith))
-
-pub next_tick_below : (frame_length t : ℕ) → t + 1 < frame_length → next_tick frame_length t ≡ t + 1
-unfolding next_tick
-next_tick_below frame_length t h = rw (lt-ltb (t + 1) frame_length h)
-
-pub next_tick_past : (frame_length t : ℕ) → frame_length ≤ t + 1 → next_tick frame_length t ≡ 0
-unfolding next_tick
-next_tick_past frame_length t h = rw (le-ltb (t + 1) frame_length h)
+pub next_past : (count n : ℕ) → count ≤ n + 1 → next_of count n ≡ 0
+unfolding next_of
+next_past count n h = rw (le-ltb (suc n) count (omega arith))
 
 module _ {n : ℕ} {offset budget : ℕ → ℕ} {frame_length : ℕ} (f : Follow n offset budget frame_length) where
   pub ends_before : (i j : ℕ) → i < j → j < n → offset i + budget i ≤ offset j
@@ -131,22 +123,22 @@ module _ {n : ℕ} {offset budget : ℕ → ℕ} {frame_length : ℕ} (f : Follo
 
   -- the tick after a window's last is the first of the next window
   pub next_starts : (i t : ℕ) → i < n → t + 1 ≡ offset i + budget i → next_tick frame_length t ≡ offset (next_window n i)
-  unfolding next_tick next_window
+  unfolding next_of
   next_starts i t k last =
       elim (dec_lt (suc i) n) [
         | yes more ↦
             rw (
               lt-ltb (suc i) n more,
-              lt-ltb (t + 1) frame_length (omega (arith, f.starts_where_one_before_ends i more, ends_in_frame (suc i) more, f.budgets_are_positive (suc i) more)),
+              lt-ltb (suc t) frame_length (omega (arith, f.starts_where_one_before_ends i more, ends_in_frame (suc i) more, f.budgets_are_positive (suc i) more)),
             )
             (omega (arith, f.starts_where_one_before_ends i more))
         | no end ↦
-            rw (le-ltb (suc i) n (omega arith), le-ltb (t + 1) frame_length (omega (arith, f.last_end_is_frame_length i (omega arith))))
+            rw (le-ltb (suc i) n (omega arith), le-ltb (suc t) frame_length (omega (arith, f.last_end_is_frame_length i (omega arith))))
             (omega (arith, f.first_starts_at_zero))
       ]
 
   pub next_is_window : (i : ℕ) → i < n → next_window n i < n
-  unfolding next_window
+  unfolding next_of
   next_is_window i k =
       elim (dec_lt (suc i) n) [
         | yes more ↦ rw (lt-ltb (suc i) n more) more
@@ -155,7 +147,7 @@ module _ {n : ℕ} {offset budget : ℕ → ℕ} {frame_length : ℕ} (f : Follo
 
   -- a tick that is not a window's last is followed by the next number
   pub goes_on : (i t : ℕ) → i < n → t + 1 < offset i + budget i → next_tick frame_length t ≡ t + 1
-  goes_on i t k more = next_tick_below frame_length t (omega (arith, ends_in_frame i k))
+  goes_on i t k more = next_below frame_length t (omega (arith, ends_in_frame i k))
 
   pub next_holds : (i t : ℕ) → i < n → t + 1 ≡ offset i + budget i
       → Holds offset budget (next_window n i) (next_tick frame_length t)
@@ -168,10 +160,10 @@ pub next_tick_lem : (N frame_length : ℕ) → 0 < frame_length → next_tick fr
 next_tick_lem N frame_length positive =
     elim (dec_lt (N % frame_length + 1) frame_length) [
       | yes below ↦
-          next_tick_below frame_length (N % frame_length) below ∙ sym (mod-eq_of_lt below) ∙ mod-add-mod N frame_length 1
+          next_below frame_length (N % frame_length) below ∙ sym (mod-eq_of_lt below) ∙ mod-add-mod N frame_length 1
       | no end ↦
           let same : N % frame_length + 1 ≡ frame_length = omega (arith, mod-lt N positive) in
-          next_tick_past frame_length (N % frame_length) (omega arith) ∙ sym (mod_self frame_length)
+          next_past frame_length (N % frame_length) (omega arith) ∙ sym (mod_self frame_length)
           ∙ ap (λ (t : ℕ). t % frame_length) (sym same)
           ∙ mod-add-mod N frame_length 1
     ]

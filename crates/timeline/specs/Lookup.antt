@@ -2,7 +2,7 @@
 -- answers 0 where it refuses (document 01, "Refusal numbers and their place"). Over any frame's verdict and any window found.
 use Rattle.std.specs.Prelude.{ℕ, leb}
 use Rattle.refusal.specs.declared.Refusal.TheVariants.{TickPastFrame}
-use Rattle.refusal.specs.declared.Verdict.{Verdict}
+use Rattle.refusal.specs.Verdict.{Verdict}
 use Rattle.refusal.specs.First.{refuse_if, or_else}
 use Rattle.verdict.specs.First.{unless_refused}
 

@@ -33,10 +33,14 @@ window_at (suc n) offset budget t = cond (holdsb offset budget n t) n (window_at
 unfoldable pub windows_ended : ℕ → (ℕ → ℕ) → (ℕ → ℕ) → (frame_length N : ℕ) → ℕ
 windows_ended n offset budget frame_length N = N / frame_length * n + window_at n offset budget (N % frame_length)
 
+-- what follows n of 0 to `count` - 1, that come round: 0 after the last
+unfoldable pub next_of : (count n : ℕ) → ℕ
+next_of count n = cond (ltb (suc n) count) (suc n) 0
+
 -- the window after i, window 0 after the last
-unfoldable pub next_window : ℕ → ℕ → ℕ
-next_window n i = cond (ltb (suc i) n) (suc i) 0
+abbrev pub next_window : (n i : ℕ) → ℕ
+next_window n i = next_of n i
 
 -- the tick after t, 0 after the frame's end
-unfoldable pub next_tick : ℕ → ℕ → ℕ
-next_tick frame_length t = cond (ltb (t + 1) frame_length) (t + 1) 0
+abbrev pub next_tick : (frame_length t : ℕ) → ℕ
+next_tick frame_length t = next_of frame_length t

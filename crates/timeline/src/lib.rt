@@ -1,24 +1,24 @@
-// What holds of n windows that follow one another: the definitions are in specs/, the laws in proofs/. Of functions there are two, what
-// follows a tick and a window. Their sums are made in 64 bits: 4294967295 has a next number too.
+// What holds of n windows that follow one another: the definitions are in specs/, the laws in proofs/. Of functions there is one, what follows a
+// tick or a window. Its sum is made in 64 bits: 4294967295 has a next number too.
 #![tactic(auto)]
 
 ghost use Rattle.std.specs.Prelude.{◌≡◌};
-ghost use Rattle.timeline.specs.Windows.{next_window, next_tick};
+ghost use Rattle.timeline.specs.Windows.{next_of};
 
-// 0 after the last of the frame.
-#[tactic(auto, using(crate::proofs::Laws::next_tick_below, crate::proofs::Laws::next_tick_past))]
-pub fn next_tick(length: u32, t: u32) -> u32
-    ensures { result ≡ next_tick length t }
-{
-    let next = t as u64 + 1;
-    if next < length as u64 { t + 1 } else { 0 }
+use refusal::Verdict;
+
+// Where a tick falls, in the kind of number that a frame's windows have. It is no `Result`: a lookup that is refused answers 0 (document 01).
+#[derive(Clone, Copy)]
+pub struct Located<W> {
+    pub window: W,
+    pub verdict: Verdict,
 }
 
-// 0 after the last.
-#[tactic(auto, using(crate::proofs::Laws::next_window_below, crate::proofs::Laws::next_window_past))]
-pub fn next_window(count: u32, w: u32) -> u32
-    ensures { result ≡ next_window count w }
+// What follows n of 0 to `count` - 1, that come round: of the ticks of a frame, or of its windows.
+#[tactic(auto, using(crate::proofs::Laws::next_below, crate::proofs::Laws::next_past))]
+pub fn next_of(count: u32, n: u32) -> u32
+    ensures { result ≡ next_of count n }
 {
-    let next = w as u64 + 1;
-    if next < count as u64 { w + 1 } else { 0 }
+    let next = n as u64 + 1;
+    if next < count as u64 { n + 1 } else { 0 }
 }

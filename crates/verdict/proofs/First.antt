@@ -14,37 +14,37 @@ use lib.ListN.{length, get_or, take, drop, length-append, get_or-append}
 use lib.Seq.{split_at, length-take-le, get_or-take, get_or-append_seam}
 use Rattle.refusal.specs.declared.Refusal.{Refusal}
 use Rattle.refusal.specs.declared.Refusal.TheVariants.{Counts}
-use Rattle.refusal.specs.declared.Verdict.{Verdict}
-use Rattle.refusal.specs.declared.Verdict.TheVariants.{Accepted, Refused}
+use Rattle.refusal.specs.Verdict.{Verdict, accepted}
+use Rattle.std.specs.Prelude.{Ok, Err}
 use Rattle.refusal.specs.First.{refuse_if, or_else}
 use Rattle.verdict.specs.First.{unless_refused, refused, first_fault, FirstAt, upward, test_at, first_of, FirstIn}
 
-pub never_both : {r : Refusal} → Accepted ≡ Refused r → ⊥
+pub never_both : {r : Refusal} → accepted ≡ Err r → ⊥
 never_both e = let z : ◌≡◌ {A = ℕ} 0 1 = cc in omega arith
 
-pub answers : {A : Type 0} {v : Verdict} (to else : A) → v ≡ Accepted → unless_refused v to else ≡ to
+pub answers : {A : Type 0} {v : Verdict} (to else : A) → v ≡ accepted → unless_refused v to else ≡ to
 answers to else e = ap (λ (v : Verdict). unless_refused v to else) e
 
-pub answers_else : {A : Type 0} {v : Verdict} (to else : A) (r : Refusal) → v ≡ Refused r → unless_refused v to else ≡ else
+pub answers_else : {A : Type 0} {v : Verdict} (to else : A) (r : Refusal) → v ≡ Err r → unless_refused v to else ≡ else
 answers_else to else r e = ap (λ (v : Verdict). unless_refused v to else) e
 
 -- one test
-pub refuses_if : (fault : Bool) (r : Refusal) → (refuse_if fault r ≡ Accepted) ↔ (fault ≡ false)
+pub refuses_if : (fault : Bool) (r : Refusal) → (refuse_if fault r ≡ accepted) ↔ (fault ≡ false)
 unfolding refuse_if
 refuses_if true r = (λ e. cc, λ e. cc)
 refuses_if false r = (λ e. refl, λ e. refl)
 
-pub fault_found : (fault : Bool) (r s : Refusal) → refuse_if fault r ≡ Refused s → fault ≡ true
+pub fault_found : (fault : Bool) (r s : Refusal) → refuse_if fault r ≡ Err s → fault ≡ true
 unfolding refuse_if
 fault_found true r s e = refl
 fault_found false r s e = absurd (never_both e)
 
-pub own_refusal : (fault : Bool) (r s : Refusal) → refuse_if fault r ≡ Refused s → r ≡ s
+pub own_refusal : (fault : Bool) (r s : Refusal) → refuse_if fault r ≡ Err s → r ≡ s
 unfolding refuse_if
 own_refusal true r s e = cc
 own_refusal false r s e = absurd (never_both e)
 
-refuses_true : (r : Refusal) → refuse_if true r ≡ Refused r
+refuses_true : (r : Refusal) → refuse_if true r ≡ Err r
 unfolding refuse_if
 refuses_true r = refl
 
@@ -54,33 +54,33 @@ in_range [] i r s h = absurd (omega arith)
 in_range (x ∷ rs) zero r s h = refl
 in_range (x ∷ rs) (suc i) r s h = in_range rs i r s (omega arith)
 
-pub not_refused : (v : Verdict) → (refused v ≡ false) ↔ (v ≡ Accepted)
+pub not_refused : (v : Verdict) → (refused v ≡ false) ↔ (v ≡ accepted)
 unfolding refused
-not_refused Accepted = (λ e. refl, λ e. refl)
-not_refused (Refused r) = (λ e. cc, λ e. cc)
+not_refused (Ok _) = (λ e. refl, λ e. refl)
+not_refused (Err r) = (λ e. cc, λ e. cc)
 
 -- two in a row
-pub both_accept : (v w : Verdict) → (or_else v w ≡ Accepted) ↔ ((v ≡ Accepted) × (w ≡ Accepted))
+pub both_accept : (v w : Verdict) → (or_else v w ≡ accepted) ↔ ((v ≡ accepted) × (w ≡ accepted))
 unfolding or_else
-both_accept Accepted w = (λ e. (refl, e), λ p. p.1)
-both_accept (Refused r) w = (λ e. (e, cc), λ p. p.0)
+both_accept (Ok _) w = (λ e. (refl, e), λ p. p.1)
+both_accept (Err r) w = (λ e. (e, cc), λ p. p.0)
 
-pub one_refuses : (v w : Verdict) (r : Refusal) → or_else v w ≡ Refused r → (v ≡ Refused r) ⊎ ((v ≡ Accepted) × (w ≡ Refused r))
+pub one_refuses : (v w : Verdict) (r : Refusal) → or_else v w ≡ Err r → (v ≡ Err r) ⊎ ((v ≡ accepted) × (w ≡ Err r))
 unfolding or_else
-one_refuses Accepted w r e = inr (refl, e)
-one_refuses (Refused x) w r e = inl e
+one_refuses (Ok _) w r e = inr (refl, e)
+one_refuses (Err x) w r e = inl e
 
 module _ (test : ℕ → Verdict) where
-  pub first_refuses : (first left : ℕ) (r : Refusal) → first_fault test first left ≡ Refused r
+  pub first_refuses : (first left : ℕ) (r : Refusal) → first_fault test first left ≡ Err r
       → (at : ℕ) × FirstAt test first left r at
   unfolding first_fault or_else
   first_refuses first zero r e = absurd (never_both e)
   first_refuses first (suc left) r e = here_or_later (test first) refl e (first_refuses (suc first) left r)
     where
-      here_or_later : (v : Verdict) → test first ≡ v → or_else v (first_fault test (suc first) left) ≡ Refused r
-          → (first_fault test (suc first) left ≡ Refused r → (at : ℕ) × FirstAt test (suc first) left r at)
+      here_or_later : (v : Verdict) → test first ≡ v → or_else v (first_fault test (suc first) left) ≡ Err r
+          → (first_fault test (suc first) left ≡ Err r → (at : ℕ) × FirstAt test (suc first) left r at)
           → (at : ℕ) × FirstAt test first (suc left) r at
-      here_or_later Accepted q e later =
+      here_or_later (Ok _) q e later =
           let (at, l) = later e in (
             at,
             record {
@@ -90,7 +90,7 @@ module _ (test : ℕ → Verdict) where
               none_before = λ j low high. elim (ℕ_discrete first j) [ yes same ↦ rw same at q | no after ↦ l.none_before j (omega arith) high ];
             },
           )
-      here_or_later (Refused x) q e later = (
+      here_or_later (Err x) q e later = (
         first,
         record {
           from_first = omega arith;
@@ -101,7 +101,7 @@ module _ (test : ℕ → Verdict) where
       )
 
   pub refuses_first : (first left : ℕ) (r : Refusal) (at : ℕ) → FirstAt test first left r at
-      → first_fault test first left ≡ Refused r
+      → first_fault test first left ≡ Err r
   unfolding first_fault or_else
   refuses_first first zero r at h = absurd (omega arith)
   refuses_first first (suc left) r at h =
@@ -118,8 +118,8 @@ module _ (test : ℕ → Verdict) where
             }))
       ]
 
-  pub each_accepts : (first left : ℕ) → first_fault test first left ≡ Accepted
-      → (j : ℕ) → first ≤ j → j < first + left → test j ≡ Accepted
+  pub each_accepts : (first left : ℕ) → first_fault test first left ≡ accepted
+      → (j : ℕ) → first ≤ j → j < first + left → test j ≡ accepted
   unfolding first_fault or_else
   each_accepts first zero e j low high = absurd (omega arith)
   each_accepts first (suc left) e j low high =
@@ -129,8 +129,8 @@ module _ (test : ℕ → Verdict) where
         | no later ↦ each_accepts (suc first) left p.1 j (omega arith) (omega arith)
       ]
 
-  pub all_accept : (first left : ℕ) → ((j : ℕ) → first ≤ j → j < first + left → test j ≡ Accepted)
-      → first_fault test first left ≡ Accepted
+  pub all_accept : (first left : ℕ) → ((j : ℕ) → first ≤ j → j < first + left → test j ≡ accepted)
+      → first_fault test first left ≡ accepted
   unfolding first_fault or_else
   all_accept first zero each = refl
   all_accept first (suc left) each =
@@ -141,33 +141,33 @@ module _ (test : ℕ → Verdict) where
   pub starts : (n : ℕ) → first_fault test 0 n ≡ first_fault test 0 (n - 0)
   starts n = ap (first_fault test 0) (sym (sub-zero n))
 
-  pub goes_on : (n i : ℕ) → i < n → test i ≡ Accepted → first_fault test i (n - i) ≡ first_fault test (i + 1) (n - (i + 1))
+  pub goes_on : (n i : ℕ) → i < n → test i ≡ accepted → first_fault test i (n - i) ≡ first_fault test (i + 1) (n - (i + 1))
   unfolding first_fault or_else
   goes_on n i h e =
       let one_more : n - i ≡ suc (n - suc i) = omega arith in
       rw (add-one, one_more, e)
 
-  pub stops : (n i : ℕ) (r : Refusal) → i < n → test i ≡ Refused r → first_fault test i (n - i) ≡ Refused r
+  pub stops : (n i : ℕ) (r : Refusal) → i < n → test i ≡ Err r → first_fault test i (n - i) ≡ Err r
   unfolding first_fault or_else
   stops n i r h e =
       let one_more : n - i ≡ suc (n - suc i) = omega arith in
       rw (one_more, e)
 
-  pub ends : (n i : ℕ) → n ≤ i → first_fault test i (n - i) ≡ Accepted
+  pub ends : (n i : ℕ) → n ≤ i → first_fault test i (n - i) ≡ accepted
   unfolding first_fault
   ends n i h =
       let none : n - i ≡ 0 = omega arith in
       rw none
 
-pub or_accepted : (v : Verdict) → or_else v Accepted ≡ v
+pub or_accepted : (v : Verdict) → or_else v accepted ≡ v
 unfolding or_else
-or_accepted Accepted = refl
-or_accepted (Refused r) = refl
+or_accepted (Ok _) = refl
+or_accepted (Err r) = refl
 
 pub or_assoc : (u v w : Verdict) → or_else (or_else u v) w ≡ or_else u (or_else v w)
 unfolding or_else
-or_assoc Accepted v w = refl
-or_assoc (Refused r) v w = refl
+or_assoc (Ok _) v w = refl
+or_assoc (Err r) v w = refl
 
 -- a fold whose tests all refuse with r is one test for r
 pub one_kind : (fault : ℕ → Bool) (r : Refusal) (first left : ℕ)
@@ -211,7 +211,7 @@ module _ (wrong : Refusal → Bool) where
   first_upward at first (suc left) =
       first_of_both (at first) (upward at (suc first) left) ∙ ap (or_else (first_of wrong (at first))) (first_upward at (suc first) left)
 
-  pub first_in : (order : List Refusal) (r : Refusal) → first_of wrong order ≡ Refused r → FirstIn wrong order r
+  pub first_in : (order : List Refusal) (r : Refusal) → first_of wrong order ≡ Err r → FirstIn wrong order r
   unfolding first_of test_at
   first_in order r e =
       let (at, f) = first_refuses (test_at wrong order) 0 (length order) r e in
@@ -228,7 +228,7 @@ module _ (wrong : Refusal → Bool) where
             ap wrong (get_or-take at order i r below ∙ in_range order i r Counts (omega arith)) ∙ (refuses_if _ _).0 (f.none_before i (omega arith) below);
       }
 
-  pub in_first : (order : List Refusal) (r : Refusal) → FirstIn wrong order r → first_of wrong order ≡ Refused r
+  pub in_first : (order : List Refusal) (r : Refusal) → FirstIn wrong order r → first_of wrong order ≡ Err r
   unfolding first_of test_at
   in_first order r f =
       let long : length order ≡ length f.before + suc (length f.after) = ap length f.stands ∙ length-append f.before (r ∷ f.after) in

@@ -6,8 +6,8 @@ use Prim.Native.Nat.{ℕ}
 use lib.ListN.{get_or}
 use Rattle.refusal.specs.declared.Refusal.TheVariants.{Counts, ZeroBudget, WrongStart, UnknownOwner, WrongLength, UnknownPartition, BadSize, BadBase, BadAccess, NinthRow, Clash, TickPastFrame, NoCallOpen, MachineStopped, NoWordsFor, LogTooShort, StrangeState}
 use Rattle.refusal.specs.declared.Refusal.{Refusal}
-use Rattle.refusal.specs.declared.Verdict.{Verdict}
-use Rattle.refusal.specs.declared.Verdict.TheVariants.{Accepted, Refused}
+use Rattle.refusal.specs.Verdict.{Verdict, accepted}
+use Rattle.std.specs.Prelude.{Ok, Err}
 use Rattle.verdict.specs.Outcome.{outcome}
 
 -- the refusals at a place, in the order of their numbers from 1
@@ -17,28 +17,28 @@ refusals p =
     ∷ NinthRow p ∷ Clash p ∷ TickPastFrame ∷ NoCallOpen ∷ MachineStopped ∷ NoWordsFor ∷ LogTooShort ∷ StrangeState ∷ []
 
 verdict_of : ℕ × ℕ → Verdict
-verdict_of o = get_or (Accepted ∷ map Refused (refusals o.1)) o.0 Accepted
+verdict_of o = get_or (accepted ∷ map Err (refusals o.1)) o.0 accepted
 
 read_again : (v : Verdict) → verdict_of (outcome v) ≡ v
 unfolding verdict_of refusals
-read_again Accepted = refl
-read_again (Refused Counts) = refl
-read_again (Refused (ZeroBudget p)) = refl
-read_again (Refused (WrongStart p)) = refl
-read_again (Refused (UnknownOwner p)) = refl
-read_again (Refused (WrongLength p)) = refl
-read_again (Refused (UnknownPartition p)) = refl
-read_again (Refused (BadSize p)) = refl
-read_again (Refused (BadBase p)) = refl
-read_again (Refused (BadAccess p)) = refl
-read_again (Refused (NinthRow p)) = refl
-read_again (Refused (Clash p)) = refl
-read_again (Refused TickPastFrame) = refl
-read_again (Refused NoCallOpen) = refl
-read_again (Refused MachineStopped) = refl
-read_again (Refused NoWordsFor) = refl
-read_again (Refused LogTooShort) = refl
-read_again (Refused StrangeState) = refl
+read_again (Ok _) = refl
+read_again (Err Counts) = refl
+read_again (Err (ZeroBudget p)) = refl
+read_again (Err (WrongStart p)) = refl
+read_again (Err (UnknownOwner p)) = refl
+read_again (Err (WrongLength p)) = refl
+read_again (Err (UnknownPartition p)) = refl
+read_again (Err (BadSize p)) = refl
+read_again (Err (BadBase p)) = refl
+read_again (Err (BadAccess p)) = refl
+read_again (Err (NinthRow p)) = refl
+read_again (Err (Clash p)) = refl
+read_again (Err TickPastFrame) = refl
+read_again (Err NoCallOpen) = refl
+read_again (Err MachineStopped) = refl
+read_again (Err NoWordsFor) = refl
+read_again (Err LogTooShort) = refl
+read_again (Err StrangeState) = refl
 
 pub same_outcome : (v w : Verdict) → outcome v ≡ outcome w → v ≡ w
 same_outcome v w e = sym (read_again v) ∙ ap verdict_of e ∙ read_again w

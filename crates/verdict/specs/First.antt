@@ -1,32 +1,31 @@
 -- The first refusal among tests that are made in an order (document 01, "Refusal numbers and their place", "Order"), and what is answered where a verdict refuses.
-use Rattle.std.specs.Prelude.{Bool, true, false, List, [], ◌∷◌, ◌++◌, ◌≡◌, ℕ, zero, suc, ◌+◌, ◌≤◌, ◌<◌, length, get_or}
+use Rattle.std.specs.Prelude.{Bool, true, false, List, [], ◌∷◌, ◌++◌, ◌≡◌, ℕ, zero, suc, ◌+◌, ◌≤◌, ◌<◌, length, get_or, Ok, Err}
 use Rattle.refusal.specs.declared.Refusal.{Refusal}
 use Rattle.refusal.specs.declared.Refusal.TheVariants.{Counts}
-use Rattle.refusal.specs.declared.Verdict.{Verdict}
-use Rattle.refusal.specs.declared.Verdict.TheVariants.{Accepted, Refused}
+use Rattle.refusal.specs.Verdict.{Verdict, accepted}
 use Rattle.refusal.specs.First.{refuse_if, or_else}
 
 -- what is answered where it accepts, and what where it refuses
 abbrev pub unless_refused : {A : Type 0} → Verdict → (to else : A) → A
-unless_refused Accepted to else = to
-unless_refused (Refused r) to else = else
+unless_refused (Ok _) to else = to
+unless_refused (Err r) to else = else
 
 -- whether it refuses
 unfoldable pub refused : Verdict → Bool
-refused Accepted = false
-refused (Refused r) = true
+refused (Ok _) = false
+refused (Err r) = true
 
 -- the first refusal among the tests from `first` on, `left` of them
 unfoldable pub first_fault : (ℕ → Verdict) → ℕ → ℕ → Verdict
-first_fault test first zero = Accepted
+first_fault test first zero = accepted
 first_fault test first (suc left) = or_else (test first) (first_fault test (suc first) left)
 
 -- the test at place `at` refuses with r, and each before it, from `first` on, accepts
 pub record FirstAt (test : ℕ → Verdict) (first left : ℕ) (r : Refusal) (at : ℕ) : Type 0 where
   pub from_first : first ≤ at
   pub before_end : at < first + left
-  pub refuses : test at ≡ Refused r
-  pub none_before : (j : ℕ) → first ≤ j → j < at → test j ≡ Accepted
+  pub refuses : test at ≡ Err r
+  pub none_before : (j : ℕ) → first ≤ j → j < at → test j ≡ accepted
 
 -- a list of refusals in the order in which they are looked for: those of place `first`, then those of the next, `left` places
 unfoldable pub upward : (ℕ → List Refusal) → ℕ → ℕ → List Refusal

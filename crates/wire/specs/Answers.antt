@@ -1,8 +1,7 @@
 -- What is answered, in words of 32 bits, for hosts that know neither enums nor signed numbers (document 01, "Refusal numbers and their place"): the refusal's number,
 -- its place and its host code, three zeros where it is accepted; then what was asked for.
-use Rattle.std.specs.Prelude.{List, [], ◌∷◌, ◌++◌, ℕ, suc, ◌-◌, ◌^◌, ℤ, pos, negsuc}
-use Rattle.refusal.specs.declared.Verdict.{Verdict}
-use Rattle.refusal.specs.declared.Verdict.TheVariants.{Accepted, Refused}
+use Rattle.std.specs.Prelude.{List, [], ◌∷◌, ◌++◌, ℕ, suc, ◌-◌, ◌^◌, ℤ, pos, negsuc, Ok, Err}
+use Rattle.refusal.specs.Verdict.{Verdict}
 use Rattle.refusal.specs.Table.{number_of, place_of, host_code_of}
 use Rattle.protocol.specs.Numbers.{call_words}
 use Rattle.state.specs.declared.Answer.{Answer}
@@ -14,8 +13,8 @@ twos (negsuc n) = 2 ^ 32 - suc n
 
 -- number, place, host code
 abbrev pub verdict_words : Verdict → List ℕ
-verdict_words Accepted = 0 ∷ 0 ∷ 0 ∷ []
-verdict_words (Refused r) = number_of r ∷ place_of r ∷ twos (host_code_of r) ∷ []
+verdict_words (Ok _) = 0 ∷ 0 ∷ 0 ∷ []
+verdict_words (Err r) = number_of r ∷ place_of r ∷ twos (host_code_of r) ∷ []
 
 -- then the call, two zeros where none is asked
 abbrev pub answer_words : Answer → List ℕ

@@ -1,7 +1,7 @@
 -- A state in eight words (document 01, "The machine": "a state has the current window, the target window, the due tick, the `swapped` mark and a
 -- phase"): the four, then the phase's four words (`phase_words` of crate `protocol`). Any eight words may come back; those that no state has are no
 -- state.
-use Rattle.std.specs.Prelude.{Bool, true, false, cond, ◌&&◌, List, [], ◌∷◌, ℕ, eqb, ltb, get_or}
+use Rattle.std.specs.Prelude.{Option, Some, None, Bool, true, false, cond, ◌&&◌, List, [], ◌∷◌, ℕ, eqb, ltb, get_or}
 use Rattle.protocol.specs.declared.Stage.{Stage}
 use Rattle.protocol.specs.declared.Stage.TheVariants.{Running, SaveCtx, ProgramRegions, Resume}
 use Rattle.protocol.specs.declared.Cause.{Cause}
@@ -11,8 +11,6 @@ use Rattle.protocol.specs.declared.Phase.TheVariants.{At, Stopped}
 use Rattle.protocol.specs.declared.PhaseWords.{PhaseWords}
 use Rattle.protocol.specs.Numbers.{phase_of, phase_words}
 use Rattle.state.specs.declared.State.{State}
-use Rattle.wire.specs.declared.Read.{Read}
-use Rattle.wire.specs.declared.Read.TheVariants.{NoState, Is}
 
 abbrev pub flag : Bool → ℕ
 flag true = 1
@@ -46,5 +44,5 @@ same_phase a b = ((eqb a.phase b.phase && eqb a.stage b.stage) && eqb a.cause b.
 unfoldable pub is_state : List ℕ → Bool
 is_state w = ltb (get_or w 3 0) 2 && same_phase (four_at w) (phase_words (phase_at (four_at w)))
 
-abbrev pub read_state : List ℕ → Read
-read_state w = cond (is_state w) (Is (state_at w)) NoState
+abbrev pub read_state : List ℕ → Option State
+read_state w = cond (is_state w) (Some (state_at w)) None

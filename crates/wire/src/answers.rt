@@ -3,27 +3,25 @@ ghost use Rattle.std.specs.Prelude.{◌≡◌};
 ghost use Rattle.refusal.specs.Table.{host_code_of};
 ghost use Rattle.wire.specs.Answers.{twos, verdict_words, answer_words};
 
+use protocol::call_words;
 use refusal::{Refusal, Verdict};
 use state::Answer;
 
-const TWO_TO_32: i64 = 4294967296;
-
-// A host code is below zero: two's complement in 32 bits.
-#[tactic(auto, using(crate::proofs::CodeLaws::code_in_word))]
+// Two's complement in 32 bits.
 fn code_word(r: Refusal) -> u32
     ensures { result ≡ twos (host_code_of r) }
 {
-    (refusal::host_code(r) as i64 + TWO_TO_32) as u32
+    r.host_code().cast_unsigned()
 }
 
 pub fn verdict_words(verdict: Verdict) -> [u32; 3]
     ensures { result ≡ verdict_words verdict }
 {
     match verdict {
-        Verdict::Accepted => [0, 0, 0],
-        Verdict::Refused(r) => {
-            let number = refusal::number(r);
-            let place = refusal::place(r);
+        Ok(()) => [0, 0, 0],
+        Err(r) => {
+            let number = r.number();
+            let place = r.place();
             [number, place, code_word(r)]
         }
     }
@@ -33,9 +31,7 @@ pub fn verdict_words(verdict: Verdict) -> [u32; 3]
 pub fn answer_words(answer: Answer) -> [u32; 5]
     ensures { result ≡ answer_words answer }
 {
-    let call = answer.call;
-    let verdict = answer.verdict;
-    let asked = call.words();
-    let said = verdict_words(verdict);
-    [said[0], said[1], said[2], asked.number, asked.partition]
+    let [number, place, code] = verdict_words(answer.verdict);
+    let asked = call_words(answer.call);
+    [number, place, code, asked.number, asked.partition]
 }

@@ -1,24 +1,16 @@
 // States in words, and back.
 ghost use Rattle.std.specs.Prelude.{◌≡◌};
-ghost use Rattle.wire.specs.States.{flag, state_words, stage_at, cause_at, phase_at, same_phase, read_state};
+ghost use Rattle.wire.specs.States.{state_words, stage_at, cause_at, phase_at, read_state};
 
-use crate::Read;
 use protocol::{Cause, Phase, PhaseWords, Stage};
 use records::WindowNo;
 use state::State;
 
-fn flag(b: bool) -> u32
-    ensures { result ≡ flag b }
-{
-    if b { 1 } else { 0 }
-}
-
 pub fn state_words(state: State) -> [u32; 8]
     ensures { result ≡ state_words state }
 {
-    let phase = state.phase;
-    let w = phase.words();
-    let mark = flag(state.swapped);
+    let w = state.phase.words();
+    let mark = u32::from(state.swapped);
     [
         state.current.0,
         state.target.0,
@@ -66,15 +58,9 @@ fn phase_at(w: PhaseWords) -> Phase
     }
 }
 
-fn same_phase(a: PhaseWords, b: PhaseWords) -> bool
-    ensures { result ≡ same_phase a b }
-{
-    (a.phase == b.phase) & (a.stage == b.stage) & (a.cause == b.cause) & (a.word == b.word)
-}
-
 // A state, if the words are what it would go out as.
 #[tactic(auto, using(refusal::proofs::Tests::chosen, refusal::proofs::Tests::passed), unfolding(crate::specs::States::is_state))]
-pub fn read_state(words: [u32; 8]) -> Read
+pub fn read_state(words: [u32; 8]) -> Option<State>
     ensures { result ≡ read_state words }
 {
     let four = PhaseWords {
@@ -85,17 +71,16 @@ pub fn read_state(words: [u32; 8]) -> Read
     };
     let phase = phase_at(four);
     let marked = words[3] < 2;
-    let phased = same_phase(four, phase.words());
+    let phased = four == phase.words();
     if marked & phased {
-        let state = State {
+        Some(State {
             current: WindowNo(words[0]),
             target: WindowNo(words[1]),
             due: words[2],
             swapped: words[3] == 1,
             phase,
-        };
-        Read::Is(state)
+        })
     } else {
-        Read::NoState
+        None
     }
 }

@@ -2,11 +2,10 @@
 // hexadecimal.
 #![tactic(auto)]
 
-use output::{end, put_verdict, say, say_hex};
-use plan::Frame;
+use output::Numbers;
+use plan::{Frame, Plan};
 use records::PartitionNo;
 use std::io;
-use words::Pair;
 
 const FRAME_A: [u32; 12] = [0, 0, 10, 1, 10, 20, 0, 30, 5, 2, 35, 15];
 
@@ -21,59 +20,32 @@ const EIGHT_AND_ONE: [u32; 36] = [
     32, 1, 2, 224, 32, 1, 1, 256, 32, 1,
 ];
 
-fn put_pair(rt: &impl Print, pair: Pair) -> io::Result<()> {
-    say_hex(rt, b" ", pair.first)?;
-    say_hex(rt, b":", pair.second)
-}
-
-fn put_slots(rt: &impl Print, slots: [Pair; 8]) -> io::Result<()> {
-    for pair in slots {
-        put_pair(rt, pair)?;
+fn show(rt: &impl Print, name: &str, rows: &[u32], partition: u32) -> io::Result<()> {
+    let plan = Plan::new(Frame { length: 50 }, &FRAME_A, rows);
+    let words = region::words_of(&plan, PartitionNo(partition));
+    print!(rt; "{name}: {}", Numbers(words.verdict))?;
+    for slot in words.slots {
+        print!(rt; " {:08x}:{:08x}", slot.first, slot.second)?;
     }
-    Ok(())
-}
-
-fn show(rt: &impl Print, name: &[u8], rows: &[u32], partition: u32) -> io::Result<()> {
-    let frame = Frame { length: 50 };
-    let words = region::words_of(frame, &FRAME_A, rows, PartitionNo(partition));
-    let verdict = words.verdict;
-    let slots = words.slots;
-    say(rt, name)?;
-    put_verdict(rt, verdict)?;
-    put_slots(rt, slots)?;
-    end(rt)
-}
-
-fn show_four(rt: &impl Print, name: &[u8], partition: u32) -> io::Result<()> {
-    show(rt, name, &FOUR_ROWS, partition)
-}
-
-fn show_nine(rt: &impl Print, name: &[u8], partition: u32) -> io::Result<()> {
-    show(rt, name, &EIGHT_AND_ONE, partition)
-}
-
-fn show_row(
-    rt: &impl Print,
-    name: &[u8],
-    base: u32,
-    size: u32,
-    access: u32,
-    partition: u32,
-) -> io::Result<()> {
-    show(rt, name, &[0, base, size, access], partition)
+    println!(rt; "")
 }
 
 fn main(rt: HostRuntime) -> io::Result<()> {
-    show(&rt, b"no rows:", &[], 0)?;
-    show_four(&rt, b"three rows of partition 0:", 0)?;
-    show_four(&rt, b"one row of partition 1:", 1)?;
-    show_four(&rt, b"none of partition 15:", 15)?;
-    show_four(&rt, b"partition 16:", 16)?;
-    show_four(&rt, b"partition 4294967295:", 4294967295)?;
-    show_nine(&rt, b"eight rows:", 2)?;
-    show_nine(&rt, b"the ninth row of another:", 1)?;
-    show_row(&rt, b"the last 32 bytes:", 0xFFFFFFE0, 32, 1, 0)?;
-    show_row(&rt, b"the upper half:", 0x80000000, 0x80000000, 2, 0)?;
-    show_row(&rt, b"a row refused:", 0x20000000, 16, 1, 0)?;
-    show_row(&rt, b"a row refused, partition 16:", 0x20000000, 16, 1, 16)
+    show(&rt, "no rows", &[], 0)?;
+    show(&rt, "three rows of partition 0", &FOUR_ROWS, 0)?;
+    show(&rt, "one row of partition 1", &FOUR_ROWS, 1)?;
+    show(&rt, "none of partition 15", &FOUR_ROWS, 15)?;
+    show(&rt, "partition 16", &FOUR_ROWS, 16)?;
+    show(&rt, "partition 4294967295", &FOUR_ROWS, 4294967295)?;
+    show(&rt, "eight rows", &EIGHT_AND_ONE, 2)?;
+    show(&rt, "the ninth row of another", &EIGHT_AND_ONE, 1)?;
+    for (name, row, partition) in [
+        ("the last 32 bytes", [0, 0xFFFFFFE0, 32, 1], 0),
+        ("the upper half", [0, 0x80000000, 0x80000000, 2], 0),
+        ("a row refused", [0, 0x20000000, 16, 1], 0),
+        ("a row refused, partition 16", [0, 0x20000000, 16, 1], 16),
+    ] {
+        show(&rt, name, &row, partition)?;
+    }
+    Ok(())
 }

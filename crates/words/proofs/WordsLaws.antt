@@ -12,8 +12,8 @@ use lib.ListN.{length, get_or, set, replicate, length-append, get_or-append}
 use lib.Seq.{get_or_at}
 use Rattle.refusal.specs.declared.Refusal.{Refusal}
 use Rattle.refusal.specs.declared.Refusal.TheVariants.{NoWordsFor}
-use Rattle.refusal.specs.declared.Verdict.{Verdict}
-use Rattle.refusal.specs.declared.Verdict.TheVariants.{Accepted, Refused}
+use Rattle.refusal.specs.Verdict.{Verdict, accepted}
+use Rattle.std.specs.Prelude.{Err}
 use Rattle.refusal.specs.First.{refuse_if, or_else}
 use Rattle.refusal.proofs.Tests.{either_at_most}
 use Rattle.plan.specs.Plan.{Plan, own_rows}
@@ -74,16 +74,16 @@ module _ (slot : ℕ → Pair) where
 
 module _ (p : Plan) (q : ℕ) where
   -- the three answers
-  pub words_refused : (r : Refusal) → verdict_of p ≡ Refused r → words_of p q ≡ no_words (Refused r)
+  pub words_refused : (r : Refusal) → verdict_of p ≡ Err r → words_of p q ≡ no_words (Err r)
   unfolding words_of words_verdict answer or_else
   words_refused r e = ap (λ (v : Verdict). answer (or_else v (refuse_if (ltb max_partition q) NoWordsFor)) (own_rows p q)) e
 
-  pub words_unknown : verdict_of p ≡ Accepted → max_partition < q → words_of p q ≡ no_words (Refused NoWordsFor)
+  pub words_unknown : verdict_of p ≡ accepted → max_partition < q → words_of p q ≡ no_words (Err NoWordsFor)
   unfolding words_of words_verdict answer or_else refuse_if
   words_unknown e h = (λ j. answer (or_else (e j) (refuse_if (lt-ltb max_partition q h j) NoWordsFor)) (own_rows p q))
 
-  pub words_found : verdict_of p ≡ Accepted → q ≤ max_partition
-      → words_of p q ≡ record { slots = up_to (pair_at (own_rows p q)) slot_count; verdict = Accepted }
+  pub words_found : verdict_of p ≡ accepted → q ≤ max_partition
+      → words_of p q ≡ record { slots = up_to (pair_at (own_rows p q)) slot_count; verdict = accepted }
   unfolding words_of words_verdict answer or_else refuse_if
   words_found e h = (λ j. answer (or_else (e j) (refuse_if (le-ltb max_partition q h j) NoWordsFor)) (own_rows p q))
 

@@ -1,9 +1,8 @@
 -- The region words of a partition (document 01, "Region words"): its rows fill slots 0 upward in table order, the other slots are free.
-use Rattle.std.specs.Prelude.{Bool, cond, ◌||◌, List, [], ◌∷◌, ◌++◌, ◌≡◌, ℕ, zero, suc, ◌+◌, ◌-◌, ◌*◌, ◌/◌, ◌^◌, ltb, eqb, length, get_or, replicate}
+use Rattle.std.specs.Prelude.{Bool, cond, ◌||◌, List, [], ◌∷◌, ◌++◌, ◌≡◌, ℕ, zero, suc, ◌+◌, ◌-◌, ◌*◌, ◌/◌, ◌^◌, ltb, eqb, length, get_or, replicate, Ok, Err}
 use Rattle.std.specs.Int.Count.{count_trailing_zeros}
 use Rattle.refusal.specs.declared.Refusal.TheVariants.{NoWordsFor}
-use Rattle.refusal.specs.declared.Verdict.{Verdict}
-use Rattle.refusal.specs.declared.Verdict.TheVariants.{Accepted, Refused}
+use Rattle.refusal.specs.Verdict.{Verdict, accepted}
 use Rattle.refusal.specs.First.{refuse_if, or_else}
 use Rattle.records.specs.declared.Row.{Row}
 use Rattle.plan.specs.Plan.{Plan, own_rows}
@@ -85,8 +84,8 @@ abbrev pub no_words : Verdict → Words
 no_words verdict = record { slots = replicate slot_count no_pair; verdict = verdict }
 
 unfoldable pub answer : Verdict → List Row → Words
-answer Accepted own = record { slots = up_to (pair_at own) slot_count; verdict = Accepted }
-answer (Refused r) own = no_words (Refused r)
+answer (Ok _) own = record { slots = up_to (pair_at own) slot_count; verdict = accepted }
+answer (Err r) own = no_words (Err r)
 
 unfoldable pub words_of : Plan → ℕ → Words
 words_of p q = answer (words_verdict p q) (own_rows p q)

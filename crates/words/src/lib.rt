@@ -12,6 +12,7 @@ pub struct Pair {
     pub second: u32,
 }
 
+// The eight slots beside the refusal, all zero where one is (document 01), so no `Result`.
 #[derive(Clone, Copy)]
 pub struct Words {
     pub slots: [Pair; 8],

@@ -19,14 +19,12 @@ with_own-own-requires c =
     omega (
       arith,
       room c.args.rows.now c.args.partition.0 c.loop-j.j c.args.count c.requires c.loop-j-test.true,
-      ap (λ (own : OwnRows). own.count) c.loop-j.invariant.1 ∙ packed_count _,
-      ap (λ (r : Row). one_if_own r c.args.partition.0) c.nth_row-r.ensures,
+      ap (λ (own : OwnRows). own.count) c.loop-j.invariant ∙ packed_count _,
+      ap (λ (r : Row). one_if_own r c.args.partition.0) c.nth_row.ensures,
     )
 
 pub loop-j-preserved : goal.loop-j-preserved
-loop-j-preserved c = (
-  omega arith,
-  c.with_own-own.ensures
-      ∙ (λ k. with_own (c.loop-j.invariant.1 k) (c.nth_row-r.ensures k) c.args.partition.0)
-      ∙ own_step c.args.rows.now c.args.partition.0 c.loop-j.j (room c.args.rows.now c.args.partition.0 c.loop-j.j c.args.count c.requires c.loop-j-test.true),
-)
+loop-j-preserved c =
+    c.with_own-own.ensures
+    ∙ (λ k. with_own (c.loop-j.invariant k) (c.nth_row.ensures k) c.args.partition.0)
+    ∙ own_step c.args.rows.now c.args.partition.0 c.loop-j.j (room c.args.rows.now c.args.partition.0 c.loop-j.j c.args.count c.requires c.loop-j-test.true)

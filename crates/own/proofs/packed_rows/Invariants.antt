@@ -1,12 +1,9 @@
--- The invariant and the measure.
-use Rattle.std.proofs.Common.{◌-◌, ◌≡◌, ◌≤◌}
+-- What was handed out so far.
+use Rattle.std.proofs.Common.{◌≡◌}
 use Rattle.rows.specs.Rows.{rows_of}
 use Rattle.own.specs.Own.{packed}
 use Rattle.own.proofs.packed_rows.Given as goal
 
 abbrev pub invariant-loop-j : goal.invariant-loop-j
 invariant-loop-j l =
-    (l.j ≤ l.count) × (l.own ≡ packed (rows_of l.rows l.partition.0 l.j))
-
-abbrev pub decreases-loop-j : goal.decreases-loop-j
-decreases-loop-j l = l.count - l.j
+    l.own ≡ packed (rows_of l.rows l.partition.0 l.j)

@@ -5,4 +5,4 @@ use Rattle.demands.proofs.Refusals.{strange_exactly}
 use Rattle.promise.proofs.of_any_state.Goals as goal
 
 pub returns : goal.returns
-returns c = λ ok e. (strange_exactly _ c.args.state (accepts _ ok) e).by_words (omega (arith, c.well_formed.0)) c.kept_word.ensures.small
+returns c = λ ok e. (strange_exactly _ c.args.state (accepts _ ok) e).by_words (omega arith) c.kept_word.ensures.small

@@ -2,5 +2,5 @@
 use Rattle.std.proofs.Common.{arith}
 use Rattle.region.proofs.slot_at.Goals as goal
 
-pub row_pair-requires-clause-size_nonzero : goal.row_pair-requires-clause-size_nonzero
-row_pair-requires-clause-size_nonzero c = c.requires.even_sizes c.args.k (omega arith)
+pub row_pair-requires : goal.row_pair-requires
+row_pair-requires c = c.requires c.args.slot.number (omega arith)

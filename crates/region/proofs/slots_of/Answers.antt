@@ -7,12 +7,9 @@ use Rattle.region.specs.Parts.{slot_at}
 use Rattle.region.proofs.slots_of.Goals as goal
 
 pub loop-k-preserved : goal.loop-k-preserved
-loop-k-preserved c = (
-  omega arith,
-  (λ j. set (c.loop-k.invariant.1 j) c.loop-k.k (c.slot_at-pair.ensures j)) ∙ fill (slot_at c.args.own) c.loop-k.k (omega arith),
-)
+loop-k-preserved c = (λ j. set (c.loop-k.invariant j) c.loop-k.k (c.slot_at.ensures j)) ∙ fill (slot_at c.args.own) c.loop-k.k (omega arith)
 
 pub returns : goal.returns
 returns c =
     let all : c.loop-k.k ≡ slot_count = omega arith in
-    c.loop-k.invariant.1 ∙ ap (filled (slot_at c.args.own)) all ∙ all_filled (slot_at c.args.own)
+    c.loop-k.invariant ∙ ap (filled (slot_at c.args.own)) all ∙ all_filled (slot_at c.args.own)

@@ -9,4 +9,4 @@ unfolding row_pair
 returns c =
     let second : c.xn_of-xn.result * 2 ^ 28 + c.ap_of-ap.result * 2 ^ 24 + 2 ^ 19 + size_field c.args.r.size * 2 + 1 ≡ rasr_word (row_rasr c.args.r) =
     omega (arith, c.xn_of-xn.ensures, c.ap_of-ap.ensures) in
-    λ k. record { first = rbar_word (row_rbar c.args.k c.args.r); second = second k }
+    λ k. record { first = rbar_word (row_rbar c.args.slot.number c.args.r); second = second k }

@@ -1,5 +1,5 @@
 -- What the fold says from row 0 on is what it says from row i on, and what is carried is what the first i rows say.
-use Rattle.std.proofs.Common.{◌-◌, ◌≡◌, ◌≤◌}
+use Rattle.std.proofs.Common.{◌-◌, ◌≡◌}
 use Rattle.verdict.specs.First.{first_fault}
 use Rattle.rows.specs.Tests.{row_test}
 use Rattle.rows.specs.Carried.{Carried}
@@ -7,7 +7,4 @@ use Rattle.rows.proofs.tests.rows_fault.Given as goal
 
 abbrev pub invariant-loop-i : goal.invariant-loop-i
 invariant-loop-i l =
-    (l.i ≤ l.count) × (first_fault (row_test l.rows) 0 l.count ≡ first_fault (row_test l.rows) l.i (l.count - l.i)) × Carried l.rows l.i l.counts l.lowest l.highest
-
-abbrev pub decreases-loop-i : goal.decreases-loop-i
-decreases-loop-i l = l.count - l.i
+    (first_fault (row_test l.rows) 0 l.count ≡ first_fault (row_test l.rows) l.i (l.count - l.i)) × Carried l.rows l.i l.counts l.lowest l.highest

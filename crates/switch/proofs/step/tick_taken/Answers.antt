@@ -9,5 +9,5 @@ use Rattle.switch.proofs.step.tick_taken.Goals as goal
 pub returns : goal.returns
 returns c =
     let more : c.last_tick-last.result ≡ false = search in
-    c.quiet.ensures ∙ ap quiet (c.ticked-taken.ensures ∙ ap (ticked c.args.state) c.next_tick.ensures)
+    c.quiet.ensures ∙ ap quiet (c.ticked-taken.ensures ∙ ap (ticked c.args.state) c.next_of.ensures)
     ∙ sym (taken_within _ _ _ (eqb-false _ _ (sym c.last_tick-last.ensures ∙ more)))

@@ -2,4 +2,4 @@
 use Rattle.wire.proofs.states.state_words.Goals as goal
 
 pub returns : goal.returns
-returns c = rw (c.words-w.ensures, c.flag-mark.ensures)
+returns c = rw (c.words-w.ensures, c.from-mark.ensures)
