@@ -5,7 +5,7 @@ ghost use Rattle.std.specs.Prelude.{◌≡◌, ◌/◌, ◌^◌, ◌<◌, length
 ghost use Rattle.machine.specs.Guard.{fits_at, state_verdict, guarded};
 
 use crate::fits::fits_at;
-pub use machine::Guarded;
+pub use machine::{Guarded, NotLetIn};
 use plan::Plan;
 use protocol::{Phase, Stage};
 use records::Window;
@@ -35,15 +35,19 @@ fn let_in(state: State, stage: Stage, count: u32, windows: &[u32]) -> Verdict
     }
 }
 
-// The plan's numbers come first.
+// The plan's numbers come first. A refusal too comes with the state's stage, and with how many windows an accepted plan has.
 #[tactic(auto, using(accepted::proofs::AcceptedLaws::accepted_all, machine::proofs::GuardLaws::guard_plan, machine::proofs::GuardLaws::guard_state))]
-pub fn guard(state: State, plan: &Plan<'_>) -> Result<Guarded, Refusal>
+pub fn guard(state: State, plan: &Plan<'_>) -> Result<Guarded, NotLetIn>
     ensures { result ≡ guarded plan.now state }
 {
     let stage = state.phase.stage();
-    plan.check()?;
+    plan.check().map_err(|refusal| NotLetIn {
+        found: Guarded { stage, count: 0 },
+        refusal,
+    })?;
     let windows = plan.windows();
     let count = window_count(windows);
-    let_in(state, stage, count, windows)?;
-    Ok(Guarded { stage, count })
+    let found = Guarded { stage, count };
+    let_in(state, stage, count, windows).map_err(|refusal| NotLetIn { found, refusal })?;
+    Ok(found)
 }

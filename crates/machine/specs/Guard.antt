@@ -1,10 +1,10 @@
 -- Which states are let in, as a test that looks at one window at most (document 01, refusals 17 and 14, "these first, then 17, then 14").
 -- Nobody has to believe it: crate `history` shows that it lets in exactly the states that events lead to (`Reached`, proofs/Exact.antt).
 use Rattle.std.specs.Prelude.{Bool, Result, Ok, Err, not, ◌&&◌, ◌||◌, List, ℕ, eqb, leb, ltb}
-use Rattle.refusal.specs.declared.Refusal.{Refusal}
 use Rattle.refusal.specs.declared.Refusal.TheVariants.{MachineStopped, StrangeState}
 use Rattle.refusal.specs.Verdict.{Verdict}
 use Rattle.refusal.specs.First.{refuse_if, or_else}
+use Rattle.verdict.specs.First.{unless_refused}
 use Rattle.timeline.specs.Windows.{next_window}
 use Rattle.records.specs.declared.Window.{Window}
 use Rattle.plan.specs.Plan.{Plan, window_count}
@@ -16,6 +16,7 @@ use Rattle.protocol.specs.declared.Phase.{Phase}
 use Rattle.protocol.specs.Phase.{is_stopped, stage_of, can_be}
 use Rattle.state.specs.declared.State.{State}
 use Rattle.machine.specs.declared.Guarded.{Guarded}
+use Rattle.machine.specs.declared.NotLetIn.{NotLetIn}
 
 -- the first two tests of the windows and the due tick get how many windows there are, and the target's window: no switch is under way, and the
 -- due tick is in the current window, which is the target
@@ -63,10 +64,14 @@ state_verdict fits phase = or_else (refuse_if (not fits) StrangeState) (refuse_i
 unfoldable pub guard_of : Plan → State → Verdict
 guard_of p s = or_else (verdict_of p) (state_verdict (fits (window_count p) p.windows s) s.phase)
 
--- with what the step goes by, where it lets in: the stage, and how many windows the plan has
-abbrev pub let_in : Verdict → Guarded → Result Guarded Refusal
-let_in (Ok _) g = Ok g
-let_in (Err r) g = Err r
+-- with what the step goes by: the stage, and how many windows an accepted plan has
+abbrev pub found : Plan → State → Guarded
+found p s = record { stage = stage_of s.phase; count = unless_refused (verdict_of p) (window_count p) 0 }
 
-abbrev pub guarded : Plan → State → Result Guarded Refusal
-guarded p s = let_in (guard_of p s) (record { stage = stage_of s.phase; count = window_count p })
+-- it is handed out beside a refusal too
+abbrev pub let_in : Verdict → Guarded → Result Guarded NotLetIn
+let_in (Ok _) g = Ok g
+let_in (Err r) g = Err (record { found = g; refusal = r })
+
+abbrev pub guarded : Plan → State → Result Guarded NotLetIn
+guarded p s = let_in (guard_of p s) (found p s)

@@ -3,16 +3,23 @@
 #![tactic(auto)]
 
 use protocol::{Call, Stage};
-use refusal::Verdict;
+use refusal::{Refusal, Verdict};
 use state::State;
 
-// What the step goes by, of a plan and a state that are let in.
+// What the guard finds of a plan and a state; where it lets in, the step goes by it.
 #[derive(Clone, Copy)]
 pub struct Guarded {
-    // where the machine is
+    // where the machine is, or was when it stopped
     pub stage: Stage,
-    // how many windows the plan has
+    // how many windows an accepted plan has; 0 for a refused one
     pub count: u32,
+}
+
+// A refusal of the guard, with what it found all the same.
+#[derive(Clone, Copy)]
+pub struct NotLetIn {
+    pub found: Guarded,
+    pub refusal: Refusal,
 }
 
 // The end state of a run, how many ticks and statuses were used, the one that stopped it included, and how many calls were written; a state of zeros and three zeros

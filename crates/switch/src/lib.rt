@@ -7,13 +7,13 @@ ghost use Rattle.std.specs.Prelude.{◌≡◌};
 ghost use Rattle.machine.specs.Machine.{tick_of, status_of};
 
 use crate::step::{Timetable, status_at, tick_at};
-use guard::guard;
+use guard::{NotLetIn, guard};
 use plan::Plan;
 use state::{Answer, State};
 
 mod step;
 
-#[tactic(auto, using(machine::proofs::MachineLaws::tick_refused, machine::proofs::MachineLaws::tick_let_in))]
+#[tactic(auto, using(machine::proofs::GuardLaws::plan_accepted, machine::proofs::MachineLaws::tick_refused, machine::proofs::MachineLaws::tick_let_in))]
 pub fn tick(state: State, plan: &Plan<'_>, t: u32) -> Answer
     ensures { result ≡ tick_of plan.now state t }
 {
@@ -26,7 +26,7 @@ pub fn tick(state: State, plan: &Plan<'_>, t: u32) -> Answer
             };
             tick_at(state, at.stage, tt, t)
         }
-        Err(r) => state.refused(Err(r)),
+        Err(NotLetIn { refusal, .. }) => state.refused(Err(refusal)),
     }
 }
 
@@ -36,6 +36,6 @@ pub fn status(state: State, plan: &Plan<'_>, word: u32) -> Answer
 {
     match guard(state, plan) {
         Ok(at) => status_at(state, at.stage, plan.windows(), word),
-        Err(r) => state.refused(Err(r)),
+        Err(NotLetIn { refusal, .. }) => state.refused(Err(refusal)),
     }
 }
