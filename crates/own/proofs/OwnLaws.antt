@@ -53,6 +53,11 @@ own_step rows q n room = with_own_lem (rows_of rows q n) (nth_row rows n) q room
 pub same_own : {a b : OwnRows} → ◌≡◌ {A = Result OwnRows Refusal} (Ok a) (Ok b) → a ≡ b
 same_own e = cc
 
+-- the verdict that an answer of `own_rows` tells
+abbrev pub verdict_in : Result OwnRows Refusal → Verdict
+verdict_in (Ok own) = accepted
+verdict_in (Err r) = Err r
+
 -- the two answers of `own_rows`
 module _ (p : Plan) (q : ℕ) where
   pub owned_refused : (r : Refusal) → verdict_of p ≡ Err r → own_rows_of p q ≡ Err r
@@ -63,14 +68,21 @@ module _ (p : Plan) (q : ℕ) where
   unfolding own_rows_of owned
   owned_accepted e = ap (λ (v : Verdict). owned v (own_rows p q)) e
 
-  -- it hands rows out exactly if the plan is accepted
-  pub owned_only : (own : OwnRows) → own_rows_of p q ≡ Ok own → verdict_of p ≡ accepted
+  -- which is the plan's own
+  pub owned_verdict : verdict_in (own_rows_of p q) ≡ verdict_of p
   unfolding own_rows_of owned
-  owned_only own = of (verdict_of p)
+  owned_verdict = of (verdict_of p)
     where
-      of : (v : Verdict) → owned v (own_rows p q) ≡ Ok own → v ≡ accepted
-      of (Ok _) e = refl
-      of (Err r) e = cc
+      of : (v : Verdict) → verdict_in (owned v (own_rows p q)) ≡ v
+      of (Ok _) = refl
+      of (Err r) = refl
+
+  -- so it hands rows out only if the plan is accepted, and refuses only as the plan is refused
+  pub owned_only : (own : OwnRows) → own_rows_of p q ≡ Ok own → verdict_of p ≡ accepted
+  owned_only own e = sym owned_verdict ∙ ap verdict_in e
+
+  pub owned_refusal : (r : Refusal) → own_rows_of p q ≡ Err r → verdict_of p ≡ Err r
+  owned_refusal r e = sym owned_verdict ∙ ap verdict_in e
 
 -- where the partition's k-th row stands in the table
 pub record Stands (rows : List ℕ) (q n k : ℕ) : Type 0 where
