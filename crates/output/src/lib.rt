@@ -51,6 +51,16 @@ impl fmt::Display for Outcome {
     }
 }
 
+// What `{}` writes of a value, as of `format_args!(..)`: a part of a line.
+pub fn say_part<T: fmt::Display + Drop>(rt: &impl Print, text: T) -> io::Result<()> {
+    rt.print(text)
+}
+
+// The same, and the line's end.
+pub fn say_line<T: fmt::Display + Drop>(rt: &impl Print, text: T) -> io::Result<()> {
+    rt.println(text)
+}
+
 pub fn say(rt: &impl Print, words: &[u8]) -> io::Result<()> {
     rt.write_all(words)
 }
