@@ -7,7 +7,6 @@ use denote.RattleType.{RattleType}
 use denote.Param.Laws.{Laws}
 use mir.Syntax.{Dict}
 use Rattle.std.specs.declared.io.Print.{Ghosts}
-use Rattle.std.specs.declared.fmt.Display.{Ghosts as Shown}
 use Prim.Native.Nat.{ℕ}
 use native.Mathlib.Omega.{arith}
 use contract.Lifetimes.{Lfts}
@@ -17,6 +16,7 @@ use Rattle.switcher.specs.declared.Stepped.{Stepped}
 use Rattle.switcher.specs.Switch.{tick_of, mark_saved_of, mark_swapped_of, mark_resumed_of}
 use Rattle.in_place.specs.declared.Told.{Told}
 use Rattle.in_place.specs.InPlace.{InPlace}
+use Rattle.std.specs.declared.fmt.Display.{Ghosts as Shown}
 use Rattle.one_answer.specs.One.{OneAnswer, OneReading, OneAnswerWhere, below_two, silent_at_exit}
 use Rattle.refusal.proofs.Refusal.number.Reads as refusal-refusal-number
 use Rattle.refusal.proofs.Refusal.place.Reads as refusal-refusal-place
@@ -351,6 +351,7 @@ module _ (printer : RattleType) (laws : Laws printer) (row : Ghosts printer.Deno
   pub output_end_one : OneAnswerWhere (output-end.Post printer laws row prints) (λ κs r. IsOk r)
   output_end_one κs xs r r' ends ends' e e' o o' = written r r' o o'
 
+-- and those that print whatever a format writes
 module _ (T printer : RattleType) (of_text : Laws T) (laws : Laws printer) (shown : Shown T.Denot) (shows : Dict) (row : Ghosts printer.Denot) (prints drops : Dict) where
   pub output_say_part_one : OneAnswerWhere (output-say-part.Post T printer of_text laws shown shows row prints drops) (λ κs r. IsOk r)
   output_say_part_one κs xs r r' ends ends' e e' o o' = written r r' o o'
