@@ -4,12 +4,12 @@
 
 ghost use Rattle.std.specs.Prelude.{◌<◌};
 
-use output::Numbers;
+use output::{Numbers, say_line};
 use plan::{Frame, Plan};
 use std::io;
 
 fn show(rt: &impl Print, name: &str, plan: &Plan<'_>) -> io::Result<()> {
-    println!(rt; "{name}: {}", Numbers(plan.check()))
+    say_line(rt, format_args!("{name}: {}", Numbers(plan.check())))
 }
 
 // Record i of every list here starts with a partition, i * 32, 32 and 1: a window of 32 ticks, or a writable row of 32 bytes.

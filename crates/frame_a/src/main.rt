@@ -2,7 +2,7 @@
 // 1024 writable bytes. Then the same frame with budget 0 in window 2.
 #![tactic(auto)]
 
-use output::Outcome;
+use output::{Outcome, say_line};
 use plan::{Frame, Plan};
 use records::PartitionNo;
 use std::io;
@@ -19,18 +19,16 @@ const ROW: [u32; 4] = [1, 0x20000000, 1024, 1];
 
 fn print_check(rt: &impl Print, name: &str, windows: &[u32]) -> io::Result<()> {
     let plan = Plan::new(FRAME, windows, &[]);
-    println!(rt; "{name}\t{}", Outcome(plan.check()))
+    say_line(rt, format_args!("{name}\t{}", Outcome(plan.check())))
 }
 
 fn print_windows(rt: &impl Print) -> io::Result<()> {
     let plan = Plan::new(FRAME, &FRAME_A, &[]);
     for t in [9, 10, 49, 50] {
         let located = lookup::lookup(&plan, t);
-        println!(rt;
-            "tick {t}\t{}\twindow {}",
-            Outcome(located.verdict),
-            located.window.0
-        )?;
+        let outcome = Outcome(located.verdict);
+        let window = located.window.0;
+        say_line(rt, format_args!("tick {t}\t{outcome}\twindow {window}"))?;
     }
     Ok(())
 }
@@ -38,11 +36,12 @@ fn print_windows(rt: &impl Print) -> io::Result<()> {
 fn print_words(rt: &impl Print) -> io::Result<()> {
     let plan = Plan::new(FRAME, &FRAME_A, &ROW);
     let words = region::words_of(&plan, PartitionNo(1));
-    println!(rt; "partition 1\t{}", Outcome(words.verdict))?;
+    say_line(rt, format_args!("partition 1\t{}", Outcome(words.verdict)))?;
     for (i, slot) in words.slots.iter().enumerate().take(2) {
-        println!(rt;
-            "partition 1, slot {i}\t{:08x}\t{:08x}",
-            slot.first, slot.second
+        let (first, second) = (slot.first, slot.second);
+        say_line(
+            rt,
+            format_args!("partition 1, slot {i}\t{first:08x}\t{second:08x}"),
         )?;
     }
     Ok(())

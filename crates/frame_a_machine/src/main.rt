@@ -3,6 +3,7 @@
 #![tactic(auto)]
 
 use Event::{Status, Tick};
+use output::say_line;
 use plan::{Frame, Plan};
 use protocol::{Call, Cause, Phase, Stage};
 use state::{Answer, State};
@@ -128,11 +129,11 @@ fn sent(state: State, plan: &Plan<'_>, event: Event) -> Answer {
 fn main(rt: HostRuntime) -> io::Result<()> {
     let plan = Plan::new(FRAME, &FRAME_A, &[]);
     let cold = State::cold_start(&plan);
-    println!(rt; "cold start\t{}", Told(cold))?;
+    say_line(&rt, format_args!("cold start\t{}", Told(cold)))?;
     let mut state = cold.state;
     for event in EVENTS {
         let answer = sent(state, &plan, event);
-        println!(rt; "{event}\t{}", Told(answer))?;
+        say_line(&rt, format_args!("{event}\t{}", Told(answer)))?;
         state = answer.state;
     }
     Ok(())

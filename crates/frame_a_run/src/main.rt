@@ -2,6 +2,7 @@
 // 30, so that windows 0 and 1 pass, then tick 40, which is not due; every call is answered with zero.
 #![tactic(auto)]
 
+use output::{say_line, say_part};
 use plan::{Frame, Plan};
 use protocol::{Cause, Phase, Stage};
 use records::{WindowNo, nth_window, window_end};
@@ -60,20 +61,23 @@ impl fmt::Display for Told<Phase> {
 // The ticks of window w, which the partition that was resumed has now.
 fn say_window(rt: &impl Print, plan: &Plan<'_>, w: u32) -> io::Result<()> {
     let window = nth_window(plan.windows(), WindowNo(w));
-    println!(rt;
-        ": it runs in window {w}, which starts at tick {} and ends before tick {}",
-        window.offset,
-        window_end(window)
+    say_line(
+        rt,
+        format_args!(
+            ": it runs in window {w}, which starts at tick {} and ends before tick {}",
+            window.offset,
+            window_end(window)
+        ),
     )
 }
 
 // One record of the log; w is the window that is next to run, and after a resume the one after it.
 fn say_call(rt: &impl Print, number: u32, q: u32, plan: &Plan<'_>, w: u32) -> io::Result<u32> {
     match number {
-        1 => println!(rt; "save the context of partition {q}")?,
-        2 => println!(rt; "swap in the regions of partition {q}")?,
+        1 => say_line(rt, format_args!("save the context of partition {q}"))?,
+        2 => say_line(rt, format_args!("swap in the regions of partition {q}"))?,
         _ => {
-            print!(rt; "resume partition {q}")?;
+            say_part(rt, format_args!("resume partition {q}"))?;
             say_window(rt, plan, w)?;
             return Ok(next_of(COUNT, w));
         }
@@ -91,13 +95,16 @@ fn say_log(rt: &impl Print, plan: &Plan<'_>, log: &[u32], calls: usize) -> io::R
 
 fn say_end(rt: &impl Print, end: RunAnswer) -> io::Result<()> {
     let state = end.state;
-    println!(rt;
-        "{}; tick {} was due. It had used {} ticks and {} statuses, and written {} calls.",
-        Told(state.phase),
-        state.due,
-        end.ticks,
-        end.statuses,
-        end.calls
+    say_line(
+        rt,
+        format_args!(
+            "{}; tick {} was due. It had used {} ticks and {} statuses, and written {} calls.",
+            Told(state.phase),
+            state.due,
+            end.ticks,
+            end.statuses,
+            end.calls
+        ),
     )
 }
 

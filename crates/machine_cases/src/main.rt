@@ -3,7 +3,7 @@
 // mark; then the call's two words.
 #![tactic(auto)]
 
-use output::Numbers;
+use output::{Numbers, say_line};
 use plan::{Frame, Plan};
 use protocol::{Cause, Phase, Stage, call_words};
 use records::WindowNo;
@@ -17,15 +17,18 @@ const FRAME_A: [u32; 12] = [0, 0, 10, 1, 10, 20, 0, 30, 5, 2, 35, 15];
 
 fn show(rt: &impl Print, name: &str, answer: Answer) -> io::Result<()> {
     let state = answer.state;
-    println!(rt;
-        "{name}: {} {} {} {} {} {} {}",
-        Numbers(answer.verdict),
-        Numbers(state.phase.words()),
-        state.current.0,
-        state.target.0,
-        state.due,
-        u32::from(state.swapped),
-        Numbers(call_words(answer.call))
+    say_line(
+        rt,
+        format_args!(
+            "{name}: {} {} {} {} {} {} {}",
+            Numbers(answer.verdict),
+            Numbers(state.phase.words()),
+            state.current.0,
+            state.target.0,
+            state.due,
+            u32::from(state.swapped),
+            Numbers(call_words(answer.call))
+        ),
     )
 }
 

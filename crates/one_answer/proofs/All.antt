@@ -16,6 +16,7 @@ use Rattle.switcher.specs.declared.Stepped.{Stepped}
 use Rattle.switcher.specs.Switch.{tick_of, mark_saved_of, mark_swapped_of, mark_resumed_of}
 use Rattle.in_place.specs.declared.Told.{Told}
 use Rattle.in_place.specs.InPlace.{InPlace}
+use Rattle.std.specs.declared.fmt.Display.{Ghosts as Shown}
 use Rattle.one_answer.specs.One.{OneAnswer, OneReading, OneAnswerWhere, below_two, silent_at_exit}
 use Rattle.refusal.proofs.Refusal.number.Reads as refusal-refusal-number
 use Rattle.refusal.proofs.Refusal.place.Reads as refusal-refusal-place
@@ -77,6 +78,8 @@ use Rattle.in_place.proofs.mark_swapped.Reads as in-place-mark-swapped
 use Rattle.in_place.proofs.mark_resumed.Reads as in-place-mark-resumed
 use Rattle.promise.proofs.of_any_plan.Reads as promise-of-any-plan
 use Rattle.promise.proofs.of_any_state.Reads as promise-of-any-state
+use Rattle.output.proofs.say_part.Reads as output-say-part
+use Rattle.output.proofs.say_line.Reads as output-say-line
 use Rattle.output.proofs.say.Reads as output-say
 use Rattle.output.proofs.say_number.Reads as output-say-number
 use Rattle.output.proofs.say_with.Reads as output-say-with
@@ -347,6 +350,14 @@ module _ (printer : RattleType) (laws : Laws printer) (row : Ghosts printer.Deno
 
   pub output_end_one : OneAnswerWhere (output-end.Post printer laws row prints) (λ κs r. IsOk r)
   output_end_one κs xs r r' ends ends' e e' o o' = written r r' o o'
+
+-- and those that print whatever a format writes
+module _ (T printer : RattleType) (of_text : Laws T) (laws : Laws printer) (shown : Shown T.Denot) (shows : Dict) (row : Ghosts printer.Denot) (prints drops : Dict) where
+  pub output_say_part_one : OneAnswerWhere (output-say-part.Post T printer of_text laws shown shows row prints drops) (λ κs r. IsOk r)
+  output_say_part_one κs xs r r' ends ends' e e' o o' = written r r' o o'
+
+  pub output_say_line_one : OneAnswerWhere (output-say-line.Post T printer of_text laws shown shows row prints drops) (λ κs r. IsOk r)
+  output_say_line_one κs xs r r' ends ends' e e' o o' = written r r' o o'
 
 pub wire_verdict_words_one : OneAnswer wire-verdict-words.Post
 wire_verdict_words_one κs xs r r' ends ends' e e' = both e e'

@@ -1,6 +1,9 @@
-// What the programs write to standard output: how values look there, and functions for the parts of a line. Each function answers only whether it could be
-// written, and none can promise what is written: that is held against each program's file `stdout`.
+// What the programs write to standard output, and they write by nothing else: how values look there, byte by byte, and functions for a line and its parts. Each
+// function answers only whether it could be written, and none can promise what is written: that is held against each program's file `stdout`.
 #![tactic(auto)]
+
+ghost use Rattle.std.specs.Prelude.{Some};
+ghost use Rattle.output.specs.Looks.{verdict_numbers, phase_numbers, call_numbers, outcome};
 
 use protocol::{CallWords, PhaseWords};
 use refusal::Verdict;
@@ -12,6 +15,8 @@ pub struct Numbers<T>(pub T);
 
 // Number and place, 0 0 where accepted.
 impl fmt::Display for Numbers<Verdict> {
+    ghost output = { λ n. Some (verdict_numbers n.0) };
+
     fn fmt<W: fmt::Write>(&self, f: &mut fmt::Formatter<W>) -> fmt::Result {
         let (number, place) = match self.0 {
             Ok(()) => (0, 0),
@@ -22,6 +27,8 @@ impl fmt::Display for Numbers<Verdict> {
 }
 
 impl fmt::Display for Numbers<PhaseWords> {
+    ghost output = { λ n. Some (phase_numbers n.0) };
+
     fn fmt<W: fmt::Write>(&self, f: &mut fmt::Formatter<W>) -> fmt::Result {
         let words = self.0;
         write!(
@@ -33,6 +40,8 @@ impl fmt::Display for Numbers<PhaseWords> {
 }
 
 impl fmt::Display for Numbers<CallWords> {
+    ghost output = { λ n. Some (call_numbers n.0) };
+
     fn fmt<W: fmt::Write>(&self, f: &mut fmt::Formatter<W>) -> fmt::Result {
         write!(f, "{} {}", self.0.number, self.0.partition)
     }
@@ -43,12 +52,24 @@ impl fmt::Display for Numbers<CallWords> {
 pub struct Outcome(pub Verdict);
 
 impl fmt::Display for Outcome {
+    ghost output = { λ o. Some (outcome o.0) };
+
     fn fmt<W: fmt::Write>(&self, f: &mut fmt::Formatter<W>) -> fmt::Result {
         match self.0 {
             Ok(()) => f.write_str("accepted"),
             Err(r) => write!(f, "refused\t{}\t{}", r.number(), r.place()),
         }
     }
+}
+
+// What `{}` writes of a value, as of `format_args!(..)`: a part of a line.
+pub fn say_part<T: fmt::Display + Drop>(rt: &impl Print, text: T) -> io::Result<()> {
+    rt.print(text)
+}
+
+// The same, and the line's end.
+pub fn say_line<T: fmt::Display + Drop>(rt: &impl Print, text: T) -> io::Result<()> {
+    rt.println(text)
 }
 
 pub fn say(rt: &impl Print, words: &[u8]) -> io::Result<()> {

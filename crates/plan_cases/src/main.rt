@@ -2,7 +2,7 @@
 // has the window too.
 #![tactic(auto)]
 
-use output::Numbers;
+use output::{Numbers, say_line, say_part};
 use plan::{Frame, Plan};
 use std::io;
 
@@ -13,7 +13,7 @@ fn plan_of<'a>(length: u32, windows: &'a [u32], rows: &'a [u32]) -> Plan<'a> {
 }
 
 fn show(rt: &impl Print, name: &str, plan: &Plan<'_>) -> io::Result<()> {
-    println!(rt; "{name}: {}", Numbers(plan.check()))
+    say_line(rt, format_args!("{name}: {}", Numbers(plan.check())))
 }
 
 fn show_windows(rt: &impl Print, name: &str, length: u32, windows: &[u32]) -> io::Result<()> {
@@ -93,16 +93,19 @@ fn clashes(rt: &impl Print) -> io::Result<()> {
 
 fn put_window(rt: &impl Print, plan: &Plan<'_>, t: u32) -> io::Result<()> {
     let located = lookup::lookup(plan, t);
-    println!(rt; " {} {}", Numbers(located.verdict), located.window.0)
+    say_line(
+        rt,
+        format_args!(" {} {}", Numbers(located.verdict), located.window.0),
+    )
 }
 
 fn ticks(rt: &impl Print) -> io::Result<()> {
     let a = plan_of(50, &FRAME_A, &[]);
     for t in [0, 9, 10, 49, 50, 4294967295] {
-        print!(rt; "tick {t}:")?;
+        say_part(rt, format_args!("tick {t}:"))?;
         put_window(rt, &a, t)?;
     }
-    print!(rt; "tick 50 of a plan refused:")?;
+    say_part(rt, "tick 50 of a plan refused:")?;
     put_window(rt, &plan_of(50, &[0, 0, 10, 1, 10, 39], &[]), 50)
 }
 

@@ -5,7 +5,7 @@
 
 ghost use Rattle.std.specs.Prelude.{◌≤◌};
 
-use output::Numbers;
+use output::{Numbers, put, say_line, say_part};
 use plan::{Frame, Plan};
 use run::{RunAnswer, run};
 use std::{fmt, io};
@@ -16,7 +16,7 @@ const TEN_TICKS: [u32; 10] = [0, 1, 2, 3, 4, 5, 6, 7, 8, 9];
 
 const ZEROS: [u32; 5] = [0; 5];
 
-// How a run ended, in numbers.
+// How a run end, in numbers.
 #[derive(Drop)]
 struct End(RunAnswer);
 
@@ -53,13 +53,13 @@ fn show(
     let mut space = [9u32; 64];
     let log = &mut space[..words];
     let end = run(plan, ticks, statuses, log);
-    print!(rt; "{name}: {} log", End(end))?;
+    say_part(rt, format_args!("{name}: {} log", End(end)))?;
     for record in log.chunks(2).take(end.calls.saturating_add(1)) {
         for word in record {
-            print!(rt; " {word}")?;
+            put(rt, *word)?;
         }
     }
-    println!(rt; "")
+    say_line(rt, "")
 }
 
 fn plan_of(length: u32, windows: &[u32]) -> Plan<'_> {

@@ -2,7 +2,7 @@
 // hexadecimal.
 #![tactic(auto)]
 
-use output::Numbers;
+use output::{Numbers, end, say_part};
 use plan::{Frame, Plan};
 use records::PartitionNo;
 use std::io;
@@ -23,11 +23,11 @@ const EIGHT_AND_ONE: [u32; 36] = [
 fn show(rt: &impl Print, name: &str, rows: &[u32], partition: u32) -> io::Result<()> {
     let plan = Plan::new(Frame { length: 50 }, &FRAME_A, rows);
     let words = region::words_of(&plan, PartitionNo(partition));
-    print!(rt; "{name}: {}", Numbers(words.verdict))?;
+    say_part(rt, format_args!("{name}: {}", Numbers(words.verdict)))?;
     for slot in words.slots {
-        print!(rt; " {:08x}:{:08x}", slot.first, slot.second)?;
+        say_part(rt, format_args!(" {:08x}:{:08x}", slot.first, slot.second))?;
     }
-    println!(rt; "")
+    end(rt)
 }
 
 fn main(rt: HostRuntime) -> io::Result<()> {
