@@ -25,6 +25,6 @@ abbrev pub call_numbers : CallWords → List ℕ
 call_numbers w = two_numbers w.number w.partition
 
 -- `accepted`, or `refused` with number and place behind tabs
-abbrev pub outcome : Verdict → List ℕ
-outcome (Ok _) = codes "accepted"
-outcome (Err r) = codes "refused\t" ++ (decimal (number_of r) ++ (codes "\t" ++ decimal (place_of r)))
+abbrev pub outcome_text : Verdict → List ℕ
+outcome_text (Ok _) = codes "accepted"
+outcome_text (Err r) = codes "refused\t" ++ (decimal (number_of r) ++ (codes "\t" ++ decimal (place_of r)))

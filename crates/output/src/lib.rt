@@ -3,7 +3,7 @@
 #![tactic(auto)]
 
 ghost use Rattle.std.specs.Prelude.{Some};
-ghost use Rattle.output.specs.Looks.{verdict_numbers, phase_numbers, call_numbers, outcome};
+ghost use Rattle.output.specs.Looks.{verdict_numbers, phase_numbers, call_numbers, outcome_text};
 
 use protocol::{CallWords, PhaseWords};
 use refusal::Verdict;
@@ -52,7 +52,7 @@ impl fmt::Display for Numbers<CallWords> {
 pub struct Outcome(pub Verdict);
 
 impl fmt::Display for Outcome {
-    ghost output = { λ o. Some (outcome o.0) };
+    ghost output = { λ o. Some (outcome_text o.0) };
 
     fn fmt<W: fmt::Write>(&self, f: &mut fmt::Formatter<W>) -> fmt::Result {
         match self.0 {

@@ -29,13 +29,15 @@ fn row_in(rows: &[u32], i: u32) -> Row
     }
 }
 
-// Whether row i clashes with one before it.
+// Whether row i clashes with one before it: a function of its own in the machine code too, so that where its loop lies, and how fast it runs, does
+// not depend on what is written around it.
 #[tactic(auto, using(verdict::proofs::First::starts, verdict::proofs::First::goes_on, verdict::proofs::First::stops, verdict::proofs::First::ends), unfolding(crate::specs::Tests::clash_test, crate::specs::Tests::clashes_before, refusal::specs::First::refuse_if))]
-fn clashes_before(rows: &[u32], i: u32, b: Row) -> Verdict
-    requires i_in_bounds { i * 4 ≤ length rows.now }
-    requires b_value { b ≡ nth_row rows.now i }
+#[inline(never)]
+fn clashes_before(rows: &[u32], i: u32) -> Verdict
+    requires { i * 4 + 3 < length rows.now }
     ensures { result ≡ clashes_before rows.now i }
 {
+    let b = row_in(rows, i);
     for j in 0..i {
         if clashes(row_in(rows, j), b) {
             return Err(Refusal::Clash(i));
@@ -48,7 +50,7 @@ fn clashes_before(rows: &[u32], i: u32, b: Row) -> Verdict
 // that one past all of them is held against none.
 #[tactic(auto, using(crate::proofs::CarriedLaws::row_is_ninth))]
 fn among_earlier(rows: &[u32], i: u32, b: Row, earlier: u32, lowest: u64, highest: u64) -> Verdict
-    requires i_in_bounds { i * 4 ≤ length rows.now }
+    requires i_in_bounds { i * 4 + 3 < length rows.now }
     requires b_value { b ≡ nth_row rows.now i }
     requires earlier_value { earlier ≡ length (rows_of rows.now b.partition.0 i) }
     requires lowest_value { (lowest ≡ lowest_base rows.now i) × (highest ≡ largest_end rows.now i) }
@@ -65,7 +67,7 @@ fn among_earlier(rows: &[u32], i: u32, b: Row, earlier: u32, lowest: u64, highes
     if end <= lowest {
         return Ok(());
     }
-    clashes_before(rows, i, b)
+    clashes_before(rows, i)
 }
 
 // The first fault among the first `count` rows. The loop carries what the rows before say of the next one: how many each partition has, their smallest

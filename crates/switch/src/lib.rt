@@ -30,6 +30,8 @@ pub fn tick(state: State, plan: &Plan<'_>, t: u32) -> Answer
     }
 }
 
+// Made part of its callers, so that an answer is not copied once more.
+#[inline(always)]
 #[tactic(auto, using(machine::proofs::MachineLaws::status_refused, machine::proofs::MachineLaws::status_let_in))]
 pub fn status(state: State, plan: &Plan<'_>, word: u32) -> Answer
     ensures { result ≡ status_of plan.now state word }
