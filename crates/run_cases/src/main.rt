@@ -16,7 +16,7 @@ const TEN_TICKS: [u32; 10] = [0, 1, 2, 3, 4, 5, 6, 7, 8, 9];
 
 const ZEROS: [u32; 5] = [0; 5];
 
-// How a run end, in numbers.
+// How a run ended, in numbers.
 #[derive(Drop)]
 struct End(RunAnswer);
 
